@@ -1,0 +1,32 @@
+-- The marked examples are computed. Rests on specs/Marked.
+use mathlib.Core.Path.{refl}
+use Rattle.words.specs.Words.{le, number}
+use Rattle.types.specs.Rows.{rowOf, widthOf}
+use Rattle.types.specs.Elements.{marked, kind, widened, shown, narrowest}
+use Rattle.values.specs.Values.{integer, trueLength, described, present}
+use Rattle.vectors.specs.Vectors.{numbers, vector, vectors, judged}
+use Rattle.laws.specs.Marked.{Marked}
+
+pub examples : Marked
+unfolding le number rowOf widthOf marked kind widened shown narrowest integer trueLength described present numbers vector vectors judged
+examples =
+    record {
+      m1 = λ rest. refl;
+      m2 = refl;
+      m3 = refl;
+      m4 = λ rest. refl;
+      m5 = λ rest. refl;
+      m6-low = refl;
+      m6-high = refl;
+      m6-below = refl;
+      m6-above = refl;
+      m7-low = refl;
+      m7-high = refl;
+      m7-below = refl;
+      m7-above = refl;
+      m8-shown = refl;
+      m8-refused = refl;
+      m9-whole = λ last. refl;
+      m9-accepted = refl;
+      m9-refused = refl;
+    }

@@ -1,0 +1,47 @@
+-- 01's marked examples, one statement with the fields of each. Rests on the definitions of types, values and vectors.
+use mathlib.Core.Path.{_≡_}
+use mathlib.Core.List.{List, [], _∷_}
+use Prim.Native.Nat.{ℕ}
+use lib.IntN.{pos, negsuc}
+use mir.Syntax.{w32}
+use mir.Val.{toZ, ofZ}
+use Rattle.types.specs.Elements.{shown, narrowest}
+use Rattle.types.specs.declared.Use.the-variants.{Id, Info}
+use Rattle.values.specs.Answers.{typed, noDescriptor, whole}
+use Rattle.values.specs.Values.{described, present}
+use Rattle.vectors.specs.Vectors.{judged, unsound}
+use Rattle.vectors.specs.declared.Judged.the-variants.{Sound}
+
+-- no plain element is too large
+abbrev pub any : ℕ
+any = 0xFFFFFFFF
+
+-- `negsuc n` is −(n + 1)
+pub record Marked : Type 0 where
+  -- M1 `47`: text of 4
+  pub m1 : (rest : List ℕ) → described Id 0 (0x47 ∷ rest) ≡ typed 7 4 1
+  -- M2 `F7 11 1B`: text of 27
+  pub m2 : described Id 0 (0xF7 ∷ 0x11 ∷ 0x1B ∷ []) ≡ typed 7 27 3
+  -- M3 `F7 11 0E`: 7, at the true length's descriptor
+  pub m3 : described Id 0 (0xF7 ∷ 0x11 ∷ 0x0E ∷ []) ≡ noDescriptor 7 1
+  -- M4 `F7 21`, with bytes enough: 6, at the true length's descriptor
+  pub m4 : (rest : List ℕ) → described Id 0 (0xF7 ∷ 0x21 ∷ rest) ≡ noDescriptor 6 1
+  -- M5 `07`: missing, that is of length 0
+  pub m5 : (rest : List ℕ) → described Id 0 (0x07 ∷ rest) ≡ typed 7 0 1
+  -- M6 −120 and 127 fit type 1; −121 and 128 take type 2
+  pub m6-low : narrowest (ofZ w32 (negsuc 119)) ≡ 1
+  pub m6-high : narrowest (ofZ w32 (pos 127)) ≡ 1
+  pub m6-below : narrowest (ofZ w32 (negsuc 120)) ≡ 2
+  pub m6-above : narrowest (ofZ w32 (pos 128)) ≡ 2
+  -- M7 −32760 and 32767 fit type 2; −32761 and 32768 take type 3
+  pub m7-low : narrowest (ofZ w32 (negsuc 32759)) ≡ 2
+  pub m7-high : narrowest (ofZ w32 (pos 32767)) ≡ 2
+  pub m7-below : narrowest (ofZ w32 (negsuc 32760)) ≡ 3
+  pub m7-above : narrowest (ofZ w32 (pos 32768)) ≡ 3
+  -- M8 type 1: `80` shows −2147483648, `82` gives 9
+  pub m8-shown : toZ w32 (shown 1 0x80) ≡ negsuc 2147483647
+  pub m8-refused : judged any 1 1 (0x82 ∷ []) ≡ unsound 9 0
+  -- M9 `31 05 81 81` is accepted; `31 05 81 06` gives 9 at its last byte, which is byte 2 of the elements
+  pub m9-whole : (last : ℕ) → present 1 Info 0 (0x31 ∷ 0x05 ∷ 0x81 ∷ last ∷ []) ≡ whole 1 3 1 4
+  pub m9-accepted : judged any 1 3 (0x05 ∷ 0x81 ∷ 0x81 ∷ []) ≡ Sound
+  pub m9-refused : judged any 1 3 (0x05 ∷ 0x81 ∷ 0x06 ∷ []) ≡ unsound 9 2

@@ -1,0 +1,26 @@
+// Positions: VCF counts the first base as 1, BCF as 0. Each has a type of its own, so that the two never meet in one sum.
+// Rests on words, for signed numbers as bits.
+ghost use mathlib.Core.Path.{_≡_};
+ghost use Rattle.positions.specs.Positions.{oneBased, zeroBased};
+
+// A position as VCF writes it: the first base is 1.
+pub struct VcfPosition(pub i32);
+
+// A position as BCF stores it: the first base is 0.
+pub struct BcfPosition(pub i32);
+
+// The VCF position of a BCF position.
+pub fn to_vcf(p: BcfPosition) -> VcfPosition
+    ensures { λ r. ⌜ r .0 ≡ oneBased (p .0) ⌝ }
+{
+    let stored = words::bits(p.0);
+    VcfPosition(words::signed(std::num::wrapping_add_u32(stored, 1)))
+}
+
+// The BCF position of a VCF position.
+pub fn to_bcf(p: VcfPosition) -> BcfPosition
+    ensures { λ r. ⌜ r .0 ≡ zeroBased (p .0) ⌝ }
+{
+    let written = words::bits(p.0);
+    BcfPosition(words::signed(std::num::wrapping_add_u32(written, 4294967295)))
+}

@@ -1,0 +1,108 @@
+-- The sixteen type codes: for each the width of its elements and the uses that 01 allows it. Rests on nothing.
+use Prim.Native.Nat.{ℕ}
+use mathlib.Core.List.{List, [], _∷_}
+use mathlib.Core.Bool.{Bool, true, false}
+use lib.ListN.{getD}
+use Rattle.types.specs.declared.Row.{Row}
+use Rattle.types.specs.declared.Use.{Use}
+use Rattle.types.specs.declared.Use.the-variants.{Id, Allele, Filter, Key, Length, Info, Format, Gt}
+
+-- integers of w bytes: FILTER, keys, true lengths, INFO and FORMAT values, GT
+abbrev pub integer : ℕ → Row
+integer w =
+    record {
+      width = w;
+      id = false;
+      allele = false;
+      filter = true;
+      key = true;
+      len = true;
+      info = true;
+      format = true;
+      gt = true;
+    }
+
+-- floats: INFO and FORMAT values
+abbrev pub float : Row
+float =
+    record {
+      width = 4;
+      id = false;
+      allele = false;
+      filter = false;
+      key = false;
+      len = false;
+      info = true;
+      format = true;
+      gt = false;
+    }
+
+-- text: ID, alleles, INFO and FORMAT values
+abbrev pub text : Row
+text =
+    record {
+      width = 1;
+      id = true;
+      allele = true;
+      filter = false;
+      key = false;
+      len = false;
+      info = true;
+      format = true;
+      gt = false;
+    }
+
+-- a code that is not used has no width and no use
+abbrev pub unused : Row
+unused =
+    record {
+      width = 0;
+      id = false;
+      allele = false;
+      filter = false;
+      key = false;
+      len = false;
+      info = false;
+      format = false;
+      gt = false;
+    }
+
+-- the table, by low half
+abbrev pub rows : List Row
+rows =
+    unused ∷
+    integer 1 ∷
+    integer 2 ∷
+    integer 4 ∷
+    unused ∷
+    float ∷
+    unused ∷
+    text ∷
+    unused ∷
+    unused ∷
+    unused ∷
+    unused ∷
+    unused ∷
+    unused ∷
+    unused ∷
+    unused ∷
+    []
+
+-- the row of a type code
+unfoldable pub rowOf : ℕ → Row
+rowOf t = getD rows t unused
+
+-- the bytes of an element
+unfoldable pub widthOf : ℕ → ℕ
+widthOf t = rowOf t .width
+
+-- whether a row allows a use
+abbrev pub allowed : Row → Use → Bool
+allowed r Id = r .id
+allowed r Allele = r .allele
+allowed r Filter = r .filter
+allowed r Key = r .key
+allowed r Length = r .len
+allowed r Info = r .info
+allowed r Format = r .format
+allowed r Gt = r .gt

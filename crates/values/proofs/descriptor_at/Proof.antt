@@ -1,0 +1,147 @@
+use native.Mathlib.Omega.{arith}
+use borrow.Author.Tests.{le-leb, le-ltb, lt-leb, lt-ltb}
+use Rattle.words.proofs.Places.{front}
+use Rattle.values.specs.Values.{described}
+use lib.ListN.{length-drop}
+use borrow.Author.Needs.{needs}
+use Rattle.values.proofs.descriptor_at.Statement.{statement}
+use Rattle.values.proofs.descriptor_at.Tie as tie
+use Rattle.values.proofs.descriptor_at.Reads as reads
+use Rattle.values.proofs.descriptor_at.Lts as lts
+use Rattle.types.proofs.allows.Reads as allows-reads
+use Rattle.types.proofs.row_of.Reads as row-of-reads
+use Rattle.values.proofs.integer_refusal.Reads as integer-refusal-reads
+use Rattle.values.proofs.true_length.Reads as true-length-reads
+
+-- src/lib.rt:140:9
+-- fill: 08c3e05f
+returns : tie.Need-returns
+unfolding described
+returns c =
+    (rw (front (described _ _) _ _) (simp (le-leb _ _ (c .if1 .taken))), search needs)
+
+-- src/lib.rt:142:13
+shared-slice-read-d : tie.Need-shared-slice-read-d
+shared-slice-read-d c = search needs
+
+-- src/lib.rt:145:9
+row-of-requires : tie.Need-row-of-requires
+row-of-requires c κs = search needs
+
+-- src/lib.rt:146:8
+allows-requires : tie.Need-allows-requires
+allows-requires c κs = search needs
+
+-- src/lib.rt:148:51
+cast-t18 : tie.Need-cast-t18
+cast-t18 c = search needs
+
+-- src/lib.rt:148:68
+add-t19 : tie.Need-add-t19
+add-t19 c = search needs
+
+-- src/lib.rt:148:13
+-- fill: d8afda76
+returns-2 : tie.Need-returns-2
+unfolding described
+returns-2 c = (
+  rw (front (described _ _) _ _) (simp (
+    lt-leb _ _ (c .before .before .before .before .before .if1 .left),
+    ← c .before .before .before .row-of .ensures .0,
+    ← c .before .before .allows .ensures,
+    c .before .if2 .taken,
+    lt-ltb _ _ (c .if3 .taken),
+  )),
+  search needs,
+)
+
+-- src/lib.rt:150:36
+add-true-length : tie.Need-add-true-length
+add-true-length c = search needs
+
+-- src/lib.rt:150:13
+true-length-requires : tie.Need-true-length-requires
+true-length-requires c κs = search needs
+
+-- src/lib.rt:151:28
+enum-known-l : tie.Need-enum-known-l
+enum-known-l c = search needs
+
+-- src/lib.rt:152:40
+enum-told : tie.Need-enum-told
+enum-told c = search needs
+
+-- src/lib.rt:152:40
+integer-refusal-requires : tie.Need-integer-refusal-requires
+integer-refusal-requires c κs = search needs
+
+-- src/lib.rt:152:13
+-- fill: 92d2ed01
+returns-3 : tie.Need-returns-3
+unfolding described
+returns-3 c = (
+  rw (front (described _ _) _ _) (simp (
+    lt-leb _ _ (c .before .before .before .before .before .before .before .before .before .if1 .left),
+    ← c .before .before .before .before .before .before .before .row-of .ensures .0,
+    ← c .before .before .before .before .before .before .before .row-of .ensures .1 .0,
+    ← c .before .before .before .before .before .before .allows .ensures,
+    c .before .before .before .before .before .if2 .taken,
+    le-ltb _ _ (c .before .before .before .before .if3 .left),
+    ← c .before .before .before .true-length .ensures .0,
+    c .before .enum-told .given .1,
+    c .integer-refusal .ensures,
+  )),
+  search needs,
+)
+
+-- src/lib.rt:154:9
+-- fill: 4ced2b5d
+returns-4 : tie.Need-returns-4
+unfolding described
+returns-4 c = (
+  rw (front (described _ _) _ _) (simp (
+    lt-leb _ _ (c .before .before .before .before .before .before .before .before .before .if1 .left),
+    ← c .before .before .before .before .before .before .before .row-of .ensures .0,
+    ← c .before .before .before .before .before .before .before .row-of .ensures .1 .0,
+    ← c .before .before .before .before .before .before .allows .ensures,
+    c .before .before .before .before .before .if2 .taken,
+    le-ltb _ _ (c .before .before .before .before .if3 .left),
+    ← c .before .before .before .true-length .ensures .0,
+    c .before .l .given .1,
+  )),
+  let i = rw (c .before .l .given .1) at (c .before .before .before .true-length .ensures .1) in (omega (arith, i), i .1),
+)
+
+-- src/lib.rt:135:1
+-- fill: 1c1d1eab
+returns-5 : tie.Need-returns-5
+unfolding described
+returns-5 c = (
+  rw (front (described _ _) _ _) (simp (
+    lt-leb _ _ (c .before .before .before .before .if1 .left),
+    ← c .before .before .row-of .ensures .0,
+    ← c .before .allows .ensures,
+    c .if2 .left,
+  )),
+  search needs,
+)
+
+pub descriptor-at-spec : {M : Type 1} → statement M
+descriptor-at-spec =
+    tie.close
+    (tie.spec
+    returns
+    shared-slice-read-d
+    row-of-requires
+    allows-requires
+    cast-t18
+    add-t19
+    returns-2
+    add-true-length
+    true-length-requires
+    enum-known-l
+    enum-told
+    integer-refusal-requires
+    returns-3
+    returns-4
+    returns-5)

@@ -1,0 +1,233 @@
+// Typed values: the descriptor, the key and the value that stand at a place of a block.
+// A block is lent up to its end, so the end of the slice is the end of the block. Rests on types and words.
+ghost use mathlib.Core.Path.{_≡_};
+ghost use Prim.Native.Nat.{_+_, _*_, _≤_};
+ghost use lib.Dec.{leb};
+ghost use lib.ListN.{drop, length};
+ghost use Rattle.values.specs.Answers.{integerRefusal, descriptorRefusal, integerInside, descriptorInside, valueInside};
+ghost use Rattle.values.specs.Values.{integer, trueLength, keyed, described, present};
+use types::Use;
+
+// Why something is refused: 01's number, and the place, a byte offset.
+pub struct Refusal {
+    pub number: u32,
+    pub place: usize,
+}
+
+// One integer with a descriptor of its own: the 32 bits that it is shown by, and the place after it.
+pub enum Integer {
+    One { bits: u32, next: usize },
+    Refused(Refusal),
+}
+
+// A descriptor: the type, the length and the place of the first element.
+pub enum Descriptor {
+    Typed { code: u8, len: u32, first: usize },
+    Refused(Refusal),
+}
+
+// A value with all its elements: the descriptor's answer, and the place after the last element.
+pub enum Value {
+    Present {
+        code: u8,
+        len: u32,
+        first: usize,
+        stop: usize,
+    },
+    Refused(Refusal),
+}
+
+// The refusal in an integer's answer; number 0 where there is none.
+fn integer_refusal(i: Integer) -> Refusal
+    ensures { λ r. ⌜ r ≡ integerRefusal i ⌝ }
+{
+    match i {
+        Integer::One { bits: _, next: _ } => Refusal {
+            number: 0,
+            place: 0,
+        },
+        Integer::Refused(r) => r,
+    }
+}
+
+// The refusal in a descriptor's answer; number 0 where there is none.
+fn descriptor_refusal(d: Descriptor) -> Refusal
+    ensures { λ r. ⌜ r ≡ descriptorRefusal d ⌝ }
+{
+    match d {
+        Descriptor::Typed {
+            code: _,
+            len: _,
+            first: _,
+        } => Refusal {
+            number: 0,
+            place: 0,
+        },
+        Descriptor::Refused(r) => r,
+    }
+}
+
+// One integer at a place: the descriptor 11, 12 or 13, and its element. The place is a key's or a true length's.
+pub fn integer_at(block: &[u8], at: usize, role: Use) -> Integer
+    ensures { λ r. ⌜ r ≡ integer role at (drop at (now (block .entry))) ⌝ }
+    ensures { λ r. ⌜ integerInside at (length (now (block .entry))) r ⌝ }
+{
+    if block.len() <= at {
+        return Integer::Refused(Refusal {
+            number: 3,
+            place: at,
+        });
+    }
+    let d = block[at];
+    let code = d % 16;
+    let row = types::row_of(code);
+    if types::allows(row, role) {
+        if d / 16 == 1 {
+            let first = at + 1;
+            let rest = block.len() - first;
+            let w = row.width as usize;
+            if rest < w {
+                return Integer::Refused(Refusal {
+                    number: 3,
+                    place: first + rest,
+                });
+            }
+            let stop = first + w;
+            let bits = types::shown_bits(code, words::word(&block[first..stop]));
+            return Integer::One { bits, next: stop };
+        }
+        return Integer::Refused(Refusal {
+            number: 6,
+            place: at,
+        });
+    }
+    Integer::Refused(Refusal {
+        number: 6,
+        place: at,
+    })
+}
+
+// The true length at a place: one integer of 15 or more. A negative number, so each mark too, is below 15.
+fn true_length(block: &[u8], at: usize) -> Integer
+    ensures { λ r. ⌜ r ≡ trueLength at (drop at (now (block .entry))) ⌝ }
+    ensures { λ r. ⌜ integerInside at (length (now (block .entry))) r ⌝ }
+{
+    let i = integer_at(block, at, Use::Length);
+    let Integer::One { bits, next } = i else {
+        return i;
+    };
+    if bits < 15 {
+        return Integer::Refused(Refusal {
+            number: 7,
+            place: at,
+        });
+    }
+    if 0x80000000 <= bits {
+        return Integer::Refused(Refusal {
+            number: 7,
+            place: at,
+        });
+    }
+    Integer::One { bits, next }
+}
+
+// The key at a place: one integer, an offset below the dictionary's size.
+pub fn key_at(block: &[u8], at: usize, strings: u32) -> Integer
+    ensures { λ r. ⌜ r ≡ keyed strings at (drop at (now (block .entry))) ⌝ }
+    ensures { λ r. ⌜ integerInside at (length (now (block .entry))) r ⌝ }
+{
+    let i = integer_at(block, at, Use::Key);
+    let Integer::One { bits, next } = i else {
+        return i;
+    };
+    if 0x80000000 <= bits {
+        return Integer::Refused(Refusal {
+            number: 8,
+            place: at + 1,
+        });
+    }
+    if strings <= bits {
+        return Integer::Refused(Refusal {
+            number: 8,
+            place: at + 1,
+        });
+    }
+    Integer::One { bits, next }
+}
+
+// The descriptor at a place, for a use.
+pub fn descriptor_at(block: &[u8], at: usize, role: Use) -> Descriptor
+    ensures { λ r. ⌜ r ≡ described role at (drop at (now (block .entry))) ⌝ }
+    ensures { λ r. ⌜ descriptorInside at (length (now (block .entry))) r ⌝ }
+{
+    if block.len() <= at {
+        return Descriptor::Refused(Refusal {
+            number: 3,
+            place: at,
+        });
+    }
+    let d = block[at];
+    let code = d % 16;
+    let n = d / 16;
+    let row = types::row_of(code);
+    if types::allows(row, role) {
+        if n < 15 {
+            return Descriptor::Typed {
+                code,
+                len: n as u32,
+                first: at + 1,
+            };
+        }
+        let l = true_length(block, at + 1);
+        let Integer::One { bits, next } = l else {
+            return Descriptor::Refused(integer_refusal(l));
+        };
+        return Descriptor::Typed {
+            code,
+            len: bits,
+            first: next,
+        };
+    }
+    Descriptor::Refused(Refusal {
+        number: 6,
+        place: at,
+    })
+}
+
+// Whether `count` elements of `w` bytes fit between two places. Divided, so that no product passes 64 bits.
+fn has_room(first: usize, count: usize, w: usize, end: usize) -> bool
+    requires { ⌜ first ≤ end ⌝ }
+    ensures { λ r. ⌜ r ≡ leb (first + count * w) end ⌝ }
+{
+    if w == 0 {
+        return true;
+    }
+    count <= (end - first) / w
+}
+
+// The value at a place with its elements, as many for each of `vectors` people (1 where there are none).
+pub fn value_at(block: &[u8], at: usize, role: Use, vectors: u32) -> Value
+    ensures { λ r. ⌜ r ≡ present vectors role at (drop at (now (block .entry))) ⌝ }
+    ensures { λ r. ⌜ valueInside at (length (now (block .entry))) r ⌝ }
+{
+    let d = descriptor_at(block, at, role);
+    let Descriptor::Typed { code, len, first } = d else {
+        return Value::Refused(descriptor_refusal(d));
+    };
+    let end = block.len();
+    let count = vectors as usize * len as usize;
+    let row = types::row_of(code);
+    let w = row.width as usize;
+    if has_room(first, count, w, end) {
+        return Value::Present {
+            code,
+            len,
+            first,
+            stop: first + count * w,
+        };
+    }
+    Value::Refused(Refusal {
+        number: 3,
+        place: end,
+    })
+}

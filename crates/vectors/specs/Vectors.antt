@@ -1,0 +1,69 @@
+-- The elements of a vector, judged one after the other, and vectors in turn. Rests on types' kinds of element.
+use Prim.Native.Nat.{ℕ, zero, suc, _+_, _*_, _/_, _≤_}
+use mathlib.Core.List.{List, [], _∷_}
+use mathlib.Core.Bool.{Bool, true, false}
+use lib.Dec.{ltb}
+use lib.ListN.{length, drop}
+use Rattle.words.specs.Pick.{pick}
+use Rattle.words.specs.Words.{number}
+use Rattle.types.specs.Rows.{widthOf}
+use Rattle.types.specs.Elements.{kind}
+use Rattle.types.specs.declared.Element.{Element}
+use Rattle.types.specs.declared.Element.the-variants.{Plain, Missing, End, Reserved}
+use Rattle.values.specs.Answers.{refusal}
+use Rattle.vectors.specs.declared.Judged.{Judged}
+use Rattle.vectors.specs.declared.Judged.the-variants.{Sound, Refused as Unsound}
+use Rattle.vectors.specs.declared.Turn.{Turn}
+use Rattle.vectors.specs.declared.Turn.the-variants.{Bad, On}
+
+-- elements: all sound, or the number and the place of the first that is refused
+abbrev pub unsound : ℕ → ℕ → Judged
+unsound n p = Unsound (refusal n p)
+
+-- the place of a refusal lies in a part of so many bytes
+abbrev pub judgedInside : ℕ → Judged → Type 0
+judgedInside end (Unsound r) = r .place ≤ end
+judgedInside end Sound = Unit {0}
+
+-- the first n numbers of w bytes each
+unfoldable pub numbers : ℕ → ℕ → List ℕ → List ℕ
+numbers w zero l = []
+numbers w (suc n) l = number w l ∷ numbers w n (drop w l)
+
+-- an element whose number is x, after an end of vector or not: refused, 9 where it is reserved or stands after an end of vector,
+-- 10 where it is plain and above the most that the vector may hold; else on, with whether the vector has ended
+abbrev pub turned : ℕ → Bool → Element → ℕ → Turn
+turned most ended Reserved x = Bad 9
+turned most ended End x = On true
+turned most ended Missing x = pick ended (Bad 9) (On false)
+turned most ended Plain x = pick ended (Bad 9) (pick (ltb most x) (Bad 10) (On false))
+
+-- after an element at a place: stopped there, or on to the rest
+abbrev pub follow : ℕ → Turn → (Bool → Judged) → Judged
+follow at (Bad n) rest = unsound n at
+follow at (On ended) rest = rest ended
+
+abbrev pub stopped : ℕ → Turn → Judged
+stopped at (Bad n) = unsound n at
+stopped at (On ended) = Sound
+
+-- the elements of one vector of type t and width w, given as numbers; `at` is the first one's place
+unfoldable pub vector : ℕ → ℕ → ℕ → ℕ → Bool → List ℕ → Judged
+vector most t w at ended [] = Sound
+vector most t w at ended (x ∷ xs) = follow at (turned most ended (kind t x) x) (λ e. vector most t w (at + w) e xs)
+
+-- the first refusal of the two
+abbrev pub andThen : Judged → Judged → Judged
+andThen (Unsound r) next = Unsound r
+andThen Sound next = next
+
+-- n vectors of len elements each at the front of a list of bytes, one after the other
+unfoldable pub vectors : ℕ → ℕ → ℕ → ℕ → ℕ → ℕ → List ℕ → Judged
+vectors most t w len zero at l = Sound
+vectors most t w len (suc n) at l =
+    let on = vectors most t w len n (at + len * w) (drop (len * w) l) in
+    andThen (vector most t w at false (numbers w len l)) on
+
+-- a part that is vectors of type t, len elements each; places count from its start
+unfoldable pub judged : ℕ → ℕ → ℕ → List ℕ → Judged
+judged most t len l = vectors most t (widthOf t) len (length l / widthOf t / len) 0 l

@@ -1,0 +1,4 @@
+pub mod Places
+pub mod Rules
+pub mod Sign
+pub mod Words

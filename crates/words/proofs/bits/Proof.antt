@@ -1,0 +1,64 @@
+use native.Mathlib.Omega.{arith}
+use Rattle.words.proofs.Sign.{back, back-wide, up, up-bits, down, down-fits, back-64}
+use mir.Facts.{sfits-widen}
+use mir.Syntax.{w32, w64}
+use Rattle.words.proofs.bits.Statement.{statement}
+use Rattle.words.proofs.bits.Tie as tie
+use Rattle.words.proofs.bits.Reads as reads
+use Rattle.words.proofs.bits.Lts as lts
+
+-- src/lib.rt:24:9
+cast-result : tie.Need-cast-result
+cast-result c =
+    let z = c .before .args .z in
+    let f = c .before .fits .z in
+    let h = rw (back z f) at (c .if1 .taken) in
+    rw (back z f) (up z f h)
+
+-- src/lib.rt:26:10
+cast-result-2 : tie.Need-cast-result-2
+cast-result-2 c =
+    let z = c .before .args .z in
+    let f = c .before .fits .z in
+    let h = rw (back z f) at (c .if1 .left) in
+    let k = down-fits z f h in
+    rw (back z f) (sfits-widen {w = w32} {w′ = w64} {z = z} tt f)
+
+-- src/lib.rt:26:10
+add-result : tie.Need-add-result
+add-result c =
+    let z = c .before .args .z in
+    let f = c .before .fits .z in
+    let h = rw (back z f) at (c .if1 .left) in
+    let k = down-fits z f h in
+    rw (back-wide z f, down z f h) (record { sfits = omega arith })
+
+-- src/lib.rt:26:9
+cast-result-3 : tie.Need-cast-result-3
+cast-result-3 c =
+    let z = c .before .args .z in
+    let f = c .before .fits .z in
+    let h = rw (back z f) at (c .if1 .left) in
+    let k = down-fits z f h in
+    rw (back-wide z f, down z f h, back-64 _ k) (tt, record { fits = k })
+
+-- src/lib.rt:20:1
+returns : tie.Need-returns
+returns c =
+    let z = c .before .args .z in
+    let f = c .before .fits .z in
+    let h = rw (back z f) at (c .if1 .taken) in
+    rw (back z f) (up-bits z h)
+
+-- src/lib.rt:20:1
+returns-2 : tie.Need-returns-2
+returns-2 c =
+    let z = c .before .args .z in
+    let f = c .before .fits .z in
+    let h = rw (back z f) at (c .if1 .left) in
+    let k = down-fits z f h in
+    rw (back-wide z f, down z f h, back-64 _ k)
+
+pub bits-spec : {M : Type 1} → statement M
+bits-spec =
+    tie.close (tie.spec cast-result cast-result-2 add-result cast-result-3 returns returns-2)

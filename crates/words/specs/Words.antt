@@ -1,0 +1,23 @@
+-- Little-endian numbers: what a list of bytes is as a number, and a number's bytes. Rests on nothing.
+use Prim.Native.Nat.{ℕ, zero, suc, _+_, _*_, _/_, _%_, _<_}
+use mathlib.Core.List.{List, [], _∷_}
+use lib.ListN.{take}
+
+-- the number that a list of bytes is, low byte first
+unfoldable pub le : List ℕ → ℕ
+le [] = 0
+le (b ∷ bs) = b + le bs * 256
+
+-- the number of the w bytes at the front of a list; where there are fewer, of those
+unfoldable pub number : ℕ → List ℕ → ℕ
+number w l = le (take w l)
+
+-- the w low bytes of a number, low byte first
+unfoldable pub bytes : ℕ → ℕ → List ℕ
+bytes zero v = []
+bytes (suc w) v = v % 256 ∷ bytes w (v / 256)
+
+-- each number of the list is a byte
+abbrev pub Bytes : List ℕ → Type 0
+Bytes [] = Unit {0}
+Bytes (b ∷ bs) = (b < 256) × Bytes bs
