@@ -1,3 +1,4 @@
+-- `positions::to_bcf` meets its contract. Through the bits: law `steps`.
 use Rattle.positions.proofs.Convert.{steps}
 use Rattle.positions.specs.Positions.{zeroBased}
 use Rattle.positions.specs.Positions.{zeroBased}

@@ -1,3 +1,4 @@
+-- `positions::to_vcf` meets its contract. Through the bits: law `steps`.
 use Rattle.positions.proofs.Convert.{steps}
 use Rattle.positions.specs.Positions.{oneBased}
 use Rattle.positions.specs.Positions.{oneBased}

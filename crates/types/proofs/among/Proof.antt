@@ -1,3 +1,4 @@
+-- `types::among` meets its contract.
 use borrow.Author.Tests.{eq-eqb, le-ltb, lt-ltb, ne-eqb}
 use Rattle.types.specs.Elements.{marked}
 use Rattle.types.proofs.among.Statement.{statement}

@@ -1,3 +1,4 @@
+-- `types::element_of` meets its contract.
 use borrow.Author.Tests.{eq-eqb, ne-eqb}
 use Rattle.types.specs.Elements.{kind}
 use borrow.Author.Needs.{needs}

@@ -1,3 +1,4 @@
+-- `types::narrowest_type` meets its contract.
 use borrow.Author.Tests.{le-leb, lt-leb}
 use Rattle.types.specs.Elements.{narrowest}
 use Rattle.types.proofs.narrowest_type.Statement.{statement}

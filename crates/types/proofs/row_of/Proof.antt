@@ -1,3 +1,4 @@
+-- `types::row_of` meets its contract. The table is the definition itself; the widths are the table's rule.
 use mathlib.Core.Path.{refl, sym}
 use native.Mathlib.Omega.{arith}
 use Rattle.types.specs.Rows.{rowOf, widthOf}

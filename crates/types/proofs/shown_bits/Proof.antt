@@ -1,3 +1,4 @@
+-- `types::shown_bits` meets its contract.
 use borrow.Author.Tests.{eq-eqb, ne-eqb}
 use Rattle.types.specs.Elements.{shown}
 use borrow.Author.Needs.{needs}

@@ -1,3 +1,4 @@
+-- `types::widen` meets its contract.
 use native.Mathlib.Omega.{arith}
 use borrow.Author.Tests.{eq-eqb, le-ltb, lt-ltb, ne-eqb}
 use Rattle.types.specs.Elements.{widened}

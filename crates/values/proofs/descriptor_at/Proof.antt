@@ -1,3 +1,4 @@
+-- `values::descriptor_at` meets its contract.
 use native.Mathlib.Omega.{arith}
 use borrow.Author.Tests.{le-leb, le-ltb, lt-leb, lt-ltb}
 use Rattle.words.proofs.Places.{front}

@@ -1,3 +1,4 @@
+-- `values::descriptor_refusal` meets its contract.
 use borrow.Author.Needs.{needs}
 use Rattle.values.proofs.descriptor_refusal.Statement.{statement}
 use Rattle.values.proofs.descriptor_refusal.Tie as tie

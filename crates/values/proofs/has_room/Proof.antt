@@ -1,3 +1,4 @@
+-- `values::has_room` meets its contract. The division stands for the product: law `fits-over`.
 use native.Mathlib.Omega.{arith}
 use Rattle.values.proofs.Room.{fits-none, fits-over}
 use borrow.Author.Needs.{needs}

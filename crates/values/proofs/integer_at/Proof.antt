@@ -1,3 +1,4 @@
+-- `values::integer_at` meets its contract.
 use Prim.Native.Nat.{_+_}
 use native.Mathlib.Nat.{add-sub-cancel-left}
 use Rattle.words.proofs.Words.{number-part}

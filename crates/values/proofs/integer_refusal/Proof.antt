@@ -1,3 +1,4 @@
+-- `values::integer_refusal` meets its contract.
 use borrow.Author.Needs.{needs}
 use Rattle.values.proofs.integer_refusal.Statement.{statement}
 use Rattle.values.proofs.integer_refusal.Tie as tie

@@ -1,3 +1,4 @@
+-- `values::key_at` meets its contract.
 use native.Mathlib.Omega.{arith}
 use borrow.Author.Tests.{le-leb, lt-leb}
 use Rattle.values.specs.Values.{keyed}
@@ -63,7 +64,7 @@ returns-3 c = (
 )
 
 -- src/lib.rt:117:1
--- fill: bc99f028
+-- fill: f53f5341
 returns-4 : tie.Need-returns-4
 unfolding keyed
 returns-4 c = (

@@ -1,3 +1,4 @@
+-- `values::true_length` meets its contract.
 use borrow.Author.Tests.{le-leb, le-ltb, lt-leb, lt-ltb}
 use Rattle.values.specs.Values.{trueLength}
 use borrow.Author.Needs.{needs}

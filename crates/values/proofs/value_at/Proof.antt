@@ -1,3 +1,4 @@
+-- `values::value_at` meets its contract. The end of the block is the end of the slice: law `present-at`.
 use mathlib.Core.Path.{sym, _∙_}
 use Prim.Native.Nat.{_+_, _*_, _^_, _≤_}
 use lib.ListN.{length}

@@ -1,3 +1,4 @@
+-- `vectors::judge` meets its contract. The loop's invariant: the part is judged as the vectors that are left of it, and those have room.
 use mathlib.Core.Path.{_≡_, _∙_}
 use Prim.Native.Nat.{_+_, _*_, _≤_}
 use native.Mathlib.Omega.{arith}

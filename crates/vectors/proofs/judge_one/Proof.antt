@@ -1,3 +1,4 @@
+-- `vectors::judge_one` meets its contract.
 use borrow.Author.Tests.{le-ltb, lt-ltb}
 use borrow.Author.Needs.{needs}
 use Rattle.vectors.proofs.judge_one.Statement.{statement}

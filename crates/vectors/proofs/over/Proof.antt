@@ -1,3 +1,4 @@
+-- `vectors::over` meets its contract.
 use mathlib.Core.Path.{refl}
 use native.Mathlib.Omega.{arith}
 use native.Mathlib.Nat.{div-zero, zero-mul, div-mul-le-self}

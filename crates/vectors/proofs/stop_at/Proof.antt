@@ -1,3 +1,4 @@
+-- `vectors::stop_at` meets its contract.
 use borrow.Author.Needs.{needs}
 use Rattle.vectors.proofs.stop_at.Statement.{statement}
 use Rattle.vectors.proofs.stop_at.Tie as tie

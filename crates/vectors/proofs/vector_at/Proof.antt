@@ -1,3 +1,4 @@
+-- `vectors::vector_at` meets its contract. The loop's invariant: the vector is judged as what is left of it, and what is left has room.
 use mathlib.Core.Path.{_≡_, _∙_}
 use mathlib.Core.Bool.{false}
 use Prim.Native.Nat.{_+_, _*_, _≤_}

@@ -1,3 +1,4 @@
+-- `words::bits` meets its contract. A negative number goes by way of 64 bits: laws of proofs/Sign.
 use native.Mathlib.Omega.{arith}
 use Rattle.words.proofs.Sign.{back, back-wide, up, up-bits, down, down-fits, back-64}
 use mir.Facts.{sfits-widen}

@@ -1,3 +1,4 @@
+-- `words::signed` meets its contract. Bits with the sign bit set go by way of 64 bits: laws of proofs/Sign.
 use borrow.Author.Needs.{needs}
 use native.Mathlib.Omega.{arith}
 use Rattle.words.proofs.Sign.{less, high, negative-64, negative-32}

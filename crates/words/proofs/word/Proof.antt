@@ -1,3 +1,4 @@
+-- `words::word` meets its contract. Each length is `number-four`, with 0 for the bytes that are not there.
 use native.Mathlib.Omega.{arith}
 use Rattle.words.proofs.Words.{number-four, past}
 use borrow.Author.Needs.{needs}

@@ -1,3 +1,4 @@
+-- `words::word_at` meets its contract. By where the slice ends: laws `number-past`, `number-rest`.
 use native.Mathlib.Omega.{arith}
 use native.Mathlib.Nat.{add-sub-cancel-left}
 use Rattle.words.proofs.Words.{number-past, number-rest}
