@@ -5,7 +5,7 @@ use mathlib.Core.List.{List, [], _∷_}
 use lib.Dec.{ltb, leb, eqb}
 use lib.ListN.{length}
 use Rattle.words.specs.Pick.{pick}
-use Rattle.words.specs.Words.{number}
+use Rattle.words.specs.Words.{number, outside}
 use Rattle.types.specs.Rows.{rowOf, widthOf, allowed}
 use Rattle.types.specs.Elements.{shown}
 use Rattle.types.specs.declared.Use.{Use}
@@ -42,8 +42,7 @@ trueLength at l = longEnough at (integer Length at l)
 -- a key is an offset below the dictionary's size; a negative number is none
 abbrev pub inDictionary : ℕ → ℕ → Integer → Integer
 inDictionary strings at (NoInteger r) = NoInteger r
-inDictionary strings at (One x next) =
-    pick (leb 0x80000000 x) (noInteger 8 (at + 1)) (pick (leb strings x) (noInteger 8 (at + 1)) (one x next))
+inDictionary strings at (One x next) = pick (outside strings x) (noInteger 8 (at + 1)) (one x next)
 
 unfoldable pub keyed : ℕ → ℕ → List ℕ → Integer
 keyed strings at l = inDictionary strings at (integer Key at l)

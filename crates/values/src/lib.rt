@@ -140,13 +140,7 @@ pub fn key_at(block: &[u8], at: usize, strings: u32) -> Integer
     let Integer::One { bits, next } = i else {
         return i;
     };
-    if 0x80000000 <= bits {
-        return Integer::Refused(Refusal {
-            number: 8,
-            place: at + 1,
-        });
-    }
-    if strings <= bits {
+    if words::is_outside(strings, bits) {
         return Integer::Refused(Refusal {
             number: 8,
             place: at + 1,

@@ -5,7 +5,7 @@ ghost use Prim.Native.Nat.{_+_, _*_, _<_};
 ghost use lib.ListN.{drop, getD, length, take};
 ghost use mir.Syntax.{w32};
 ghost use mir.Val.{ofZ, toZ};
-ghost use Rattle.words.specs.Words.{number};
+ghost use Rattle.words.specs.Words.{number, outside};
 
 // A byte as a 32-bit number: with it a read asks only for its index.
 fn wide(x: u8) -> u32
@@ -76,4 +76,14 @@ pub fn bits(z: i32) -> u32
     } else {
         (z as i64 + 4294967296) as u32
     }
+}
+
+// Whether 32 bits are no offset below a size: a negative number, or one too large.
+pub fn is_outside(size: u32, bits: u32) -> bool
+    ensures { λ r. ⌜ r ≡ outside size bits ⌝ }
+{
+    if 0x80000000 <= bits {
+        return true;
+    }
+    size <= bits
 }

@@ -1,0 +1,75 @@
+-- The front of a record: the two lengths, and then the fixed fields in the order of their bytes. Rests on the layout.
+use Prim.Native.Nat.{ℕ, _+_, _/_, _%_, _≤_}
+use mathlib.Core.List.{List}
+use lib.Dec.{ltb, leb, eqb}
+use lib.ListN.{length}
+use Rattle.words.specs.Pick.{pick}
+use Rattle.words.specs.Words.{outside}
+use Rattle.values.specs.Answers.{refusal}
+use Rattle.values.specs.declared.Refusal.{Refusal}
+use Rattle.fixed.specs.Layout.{chromAt, posAt, rlenAt, countsAt, peopleAt, qualAt, idAt, mostBytes, field, posWrong, rlenWrong, countsWrong, peopleWrong, qualWrong}
+use Rattle.fixed.specs.declared.Facts.{Facts}
+use Rattle.fixed.specs.declared.Blocks.{Blocks}
+use Rattle.fixed.specs.declared.Blocks.the-variants.{Lent, Refused as NoBlocks}
+use Rattle.fixed.specs.declared.Fixed.{Fixed}
+use Rattle.fixed.specs.declared.Fixed.the-variants.{Site, Refused as NoSite}
+
+-- 01's number and values for each case: the blocks, refused or the places where the genotype block begins and ends; the fixed
+-- fields, refused or a site
+abbrev pub noBlocks : ℕ → ℕ → Blocks
+noBlocks n p = NoBlocks (refusal n p)
+
+abbrev pub noSite : ℕ → ℕ → Fixed
+noSite n p = NoSite (refusal n p)
+
+abbrev pub blocksRefusal : Blocks → Refusal
+blocksRefusal (NoBlocks r) = r
+blocksRefusal (Lent border whole) = refusal 0 0
+
+-- under 8 bytes 1; over the most 2; fewer bytes than the record's length 1; a site block that ends before ID 3
+unfoldable pub blocks : List ℕ → Blocks
+blocks s =
+    let border = 8 + field 0 s in
+    let whole = border + field 4 s in
+    pick (ltb (length s) 8) (noBlocks 1 0)
+    (pick (ltb mostBytes whole) (noBlocks 2 0)
+    (pick (ltb (length s) whole) (noBlocks 1 0)
+    (pick (ltb border idAt) (noBlocks 3 border)
+    (Lent border whole))))
+
+-- the fixed fields in the order of their bytes; the first that breaks its rule gives 5 at its place
+abbrev pub fields : Facts → List ℕ → Blocks → Fixed
+fields f s (NoBlocks r) = NoSite r
+fields f s (Lent border whole) =
+    let counts = field countsAt s in
+    let members = field peopleAt s in
+    pick (outside (f .contigs) (field chromAt s)) (noSite 5 chromAt)
+    (pick (posWrong (field posAt s)) (noSite 5 posAt)
+    (pick (rlenWrong (field rlenAt s)) (noSite 5 rlenAt)
+    (pick (countsWrong (counts / 65536)) (noSite 5 countsAt)
+    (pick (peopleWrong (f .people) (members / 16777216) (members % 16777216)) (noSite 5 peopleAt)
+    (pick (qualWrong (field qualAt s)) (noSite 5 qualAt)
+    (Site (record {
+      length = whole;
+      border = border;
+      chrom = field chromAt s;
+      pos = field posAt s;
+      rlen = field rlenAt s;
+      qual = field qualAt s;
+      alleles = counts / 65536;
+      infos = counts % 65536;
+      formats = members / 16777216;
+      people = members % 16777216;
+    })))))))
+
+unfoldable pub fixed : Facts → List ℕ → Fixed
+fixed f s = fields f s (blocks s)
+
+-- the places of an answer lie in the slice
+abbrev pub blocksInside : ℕ → Blocks → Type 0
+blocksInside end (NoBlocks r) = Unit {0}
+blocksInside end (Lent border whole) = (idAt ≤ border) × (border ≤ whole) × (whole ≤ end) × (whole ≤ mostBytes)
+
+abbrev pub fixedInside : ℕ → Fixed → Type 0
+fixedInside end (NoSite r) = Unit {0}
+fixedInside end (Site t) = (idAt ≤ t .border) × (t .border ≤ t .length) × (t .length ≤ end) × (t .length ≤ mostBytes)

@@ -1,0 +1,210 @@
+// The two lengths and the fixed fields at the front of a record, judged in the order of their bytes.
+// Rests on words for the numbers and on values for the form of a refusal.
+ghost use mathlib.Core.Path.{_≡_};
+ghost use lib.ListN.{length};
+ghost use Rattle.fixed.specs.Layout.{field, posWrong, peopleWrong, qualWrong};
+ghost use Rattle.fixed.specs.Fixed.{blocks, fixed, blocksRefusal, blocksInside, fixedInside};
+use values::Refusal;
+
+// What the header says: strings in the dictionary, contigs, people, and the dictionary offset of GT.
+pub struct Facts {
+    pub strings: u32,
+    pub contigs: u32,
+    pub people: u32,
+    pub gt: u32,
+}
+
+// The site of a record: its length, the place where its genotype block begins, the fixed fields and the four counts.
+// POS is kept as its 32 bits, and QUAL is never anything else.
+pub struct Site {
+    pub length: usize,
+    pub border: usize,
+    pub chrom: u32,
+    pub pos: u32,
+    pub rlen: u32,
+    pub qual: u32,
+    pub alleles: u32,
+    pub infos: u32,
+    pub formats: u32,
+    pub people: u32,
+}
+
+// The two blocks of a record: where the genotype block begins, and where it ends.
+pub enum Blocks {
+    Lent { border: usize, length: usize },
+    Refused(Refusal),
+}
+
+// The fixed fields, or the first thing that is wrong at the front of a record.
+pub enum Fixed {
+    Site(Site),
+    Refused(Refusal),
+}
+
+// The places of the fixed fields, of four bytes each.
+const CHROM: usize = 8;
+
+const POS: usize = 12;
+
+const RLEN: usize = 16;
+
+const COUNTS: usize = 20;
+
+const PEOPLE: usize = 24;
+
+const QUAL: usize = 28;
+
+// The four bytes at a place as a number.
+fn field_at(s: &[u8], at: usize) -> u32
+    ensures { λ r. ⌜ r ≡ field at (now (s .entry)) ⌝ }
+{
+    words::word_at(s, at, 4)
+}
+
+// The blocks of the record at the start of a slice.
+pub fn blocks_of(s: &[u8]) -> Blocks
+    ensures { λ r. ⌜ r ≡ blocks (now (s .entry)) ⌝ }
+    ensures { λ r. ⌜ blocksInside (length (now (s .entry))) r ⌝ }
+{
+    if s.len() < 8 {
+        return Blocks::Refused(Refusal {
+            number: 1,
+            place: 0,
+        });
+    }
+    let border = 8 + field_at(s, 0) as usize;
+    let length = border + field_at(s, 4) as usize;
+    if 16777216 < length {
+        return Blocks::Refused(Refusal {
+            number: 2,
+            place: 0,
+        });
+    }
+    if s.len() < length {
+        return Blocks::Refused(Refusal {
+            number: 1,
+            place: 0,
+        });
+    }
+    if border < 32 {
+        return Blocks::Refused(Refusal {
+            number: 3,
+            place: border,
+        });
+    }
+    Blocks::Lent { border, length }
+}
+
+// The refusal in the blocks' answer; number 0 where there is none.
+fn blocks_refusal(b: Blocks) -> Refusal
+    ensures { λ r. ⌜ r ≡ blocksRefusal b ⌝ }
+{
+    match b {
+        Blocks::Lent {
+            border: _,
+            length: _,
+        } => Refusal {
+            number: 0,
+            place: 0,
+        },
+        Blocks::Refused(r) => r,
+    }
+}
+
+// Whether POS is below −1 or above 2147483646.
+fn pos_wrong(bits: u32) -> bool
+    ensures { λ r. ⌜ r ≡ posWrong bits ⌝ }
+{
+    if bits <= 2147483646 {
+        return false;
+    }
+    bits < 0xFFFFFFFF
+}
+
+// Whether FORMAT fields and people break their rule: people are those of the header, and without people there is no FORMAT field.
+fn people_wrong(given: u32, formats: u32, people: u32) -> bool
+    ensures { λ r. ⌜ r ≡ peopleWrong given formats people ⌝ }
+{
+    if people == given {
+        if people == 0 {
+            return 0 < formats;
+        }
+        return false;
+    }
+    true
+}
+
+// Whether QUAL is an end of vector or reserved.
+fn qual_wrong(bits: u32) -> bool
+    ensures { λ r. ⌜ r ≡ qualWrong bits ⌝ }
+{
+    if bits < 0x7F800002 {
+        return false;
+    }
+    bits <= 0x7F800007
+}
+
+// The blocks and the fixed fields of the record at the start of a slice.
+pub fn fixed_fields(s: &[u8], facts: Facts) -> Fixed
+    ensures { λ r. ⌜ r ≡ fixed facts (now (s .entry)) ⌝ }
+    ensures { λ r. ⌜ fixedInside (length (now (s .entry))) r ⌝ }
+{
+    let b = blocks_of(s);
+    let Blocks::Lent { border, length } = b else {
+        return Fixed::Refused(blocks_refusal(b));
+    };
+    let chrom = field_at(s, CHROM);
+    if words::is_outside(facts.contigs, chrom) {
+        return Fixed::Refused(Refusal {
+            number: 5,
+            place: CHROM,
+        });
+    }
+    let pos = field_at(s, POS);
+    if pos_wrong(pos) {
+        return Fixed::Refused(Refusal {
+            number: 5,
+            place: POS,
+        });
+    }
+    let rlen = field_at(s, RLEN);
+    if 0x80000000 <= rlen {
+        return Fixed::Refused(Refusal {
+            number: 5,
+            place: RLEN,
+        });
+    }
+    let counts = field_at(s, COUNTS);
+    if counts / 65536 == 0 {
+        return Fixed::Refused(Refusal {
+            number: 5,
+            place: COUNTS,
+        });
+    }
+    let members = field_at(s, PEOPLE);
+    if people_wrong(facts.people, members / 16777216, members % 16777216) {
+        return Fixed::Refused(Refusal {
+            number: 5,
+            place: PEOPLE,
+        });
+    }
+    let qual = field_at(s, QUAL);
+    if qual_wrong(qual) {
+        return Fixed::Refused(Refusal {
+            number: 5,
+            place: QUAL,
+        });
+    }
+    Fixed::Site(Site {
+        length,
+        border,
+        chrom,
+        pos,
+        rlen,
+        qual,
+        alleles: counts / 65536,
+        infos: counts % 65536,
+        formats: members / 16777216,
+        people: members % 16777216,
+    })
+}
