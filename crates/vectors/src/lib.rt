@@ -3,12 +3,16 @@
 ghost use mathlib.Core.Path.{_≡_};
 ghost use mathlib.Core.Logic.{_≢_};
 ghost use mathlib.Core.Bool.{false};
-ghost use Prim.Native.Nat.{_+_, _*_, _/_, _≤_};
+ghost use Prim.Native.Nat.{_+_, _*_, _≤_};
 ghost use lib.ListN.{drop, length};
 ghost use Rattle.types.specs.Elements.{kind};
+ghost use Rattle.values.specs.Answers.{valueInside};
+ghost use Rattle.vectors.specs.Sound.{highest, codeMost, mostOf, sound};
 ghost use Rattle.vectors.specs.Vectors.{numbers, turned, stopped, vector, judged, judgedInside};
 use types::Element;
+use types::Use;
 use values::Refusal;
+use values::Value;
 
 // Whether elements are sound, or the first that is not.
 pub enum Judged {
@@ -58,16 +62,6 @@ fn stop_at(t: Turn, at: usize) -> Judged
     }
 }
 
-// a / b, and 0 for no divisor.
-fn over(a: usize, b: usize) -> usize
-    ensures { λ r. ⌜ (r ≡ a / b) × (r * b ≤ a) ⌝ }
-{
-    if b == 0 {
-        return 0;
-    }
-    a / b
-}
-
 // The elements of the one vector that starts at a place of a part.
 fn vector_at(part: &[u8], code: u8, w: u8, most: u32, len: usize, from: usize) -> Judged
     requires { ⌜ (from + len * w ≤ length (now part)) × (w ≤ 4) × (w ≢ 3) ⌝ }
@@ -97,7 +91,7 @@ pub fn judge(part: &[u8], code: u8, len: usize, most: u32) -> Judged
 {
     let row = types::row_of(code);
     let w = row.width;
-    let mut left = over(over(part.len(), w as usize), len);
+    let mut left = words::over(words::over(part.len(), w as usize), len);
     let mut at = 0;
     while 0 < left {
         let j = vector_at(part, code, w, most, len, at);
@@ -108,4 +102,70 @@ pub fn judge(part: &[u8], code: u8, len: usize, most: u32) -> Judged
         left -= 1;
     }
     Judged::Sound
+}
+
+// The largest number of an integer type.
+fn highest_of(code: u8) -> u32
+    ensures { λ r. ⌜ r ≡ highest code ⌝ }
+{
+    if code == 1 {
+        return 0x7F;
+    }
+    if code == 2 {
+        return 0x7FFF;
+    }
+    0x7FFFFFFF
+}
+
+// The largest code that a GT element of a type may hold.
+fn code_most(alleles: u32, code: u8) -> u32
+    ensures { λ r. ⌜ r ≡ codeMost alleles code ⌝ }
+{
+    let top = highest_of(code);
+    if alleles < top / 2 {
+        return alleles * 2 + 1;
+    }
+    top
+}
+
+// The most that a plain element of a value may be, by the use of the value.
+fn most_of(role: Use, alleles: u32, code: u8) -> u32
+    ensures { λ r. ⌜ r ≡ mostOf role alleles code ⌝ }
+{
+    match role {
+        Use::Gt => code_most(alleles, code),
+        Use::Id => 0xFFFFFFFF,
+        Use::Allele => 0xFFFFFFFF,
+        Use::Filter => 0xFFFFFFFF,
+        Use::Key => 0xFFFFFFFF,
+        Use::Length => 0xFFFFFFFF,
+        Use::Info => 0xFFFFFFFF,
+        Use::Format => 0xFFFFFFFF,
+    }
+}
+
+// The value at a place with all its elements, each sound: so many vectors of its length, under an allele count where it is GT.
+pub fn sound_value_at(block: &[u8], at: usize, role: Use, vectors: u32, alleles: u32) -> Value
+    ensures { λ r. ⌜ r ≡ sound vectors alleles role at (drop at (now (block .entry))) ⌝ }
+    ensures { λ r. ⌜ valueInside at (length (now (block .entry))) r ⌝ }
+{
+    let v = values::value_at(block, at, role, vectors);
+    let Value::Present {
+        code,
+        len,
+        first,
+        stop,
+    } = v
+    else {
+        return v;
+    };
+    let most = most_of(role, alleles, code);
+    let j = judge(&block[first..stop], code, len as usize, most);
+    let Judged::Refused(r) = j else {
+        return v;
+    };
+    Value::Refused(Refusal {
+        number: r.number,
+        place: first + r.place,
+    })
 }

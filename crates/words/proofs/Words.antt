@@ -40,6 +40,10 @@ number-part w l h = rw (take-all 4 (take w l) (rw length-take (omega arith)))
 pub number-at : (s : List ℕ) (at w : ℕ) → w ≤ 4 → number 4 (take (at + w - at) (drop at s)) ≡ number w (drop at s)
 number-at s at w h = rw add-sub-cancel-left (number-part w (drop at s) h)
 
+pub number-between : (s : List ℕ) (first stop w : ℕ) → stop ≡ first + w → w ≤ 4
+    → number 4 (take (stop - first) (drop first s)) ≡ number w (drop first s)
+number-between s first stop w e h = rw e (number-at s first w h)
+
 -- bounds
 pub le-bound : (l : List ℕ) → Bytes l → le l < 256 ^ length l
 unfolding le

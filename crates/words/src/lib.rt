@@ -1,7 +1,7 @@
 // Little-endian numbers of up to four bytes in a lent slice, and 32 bits as a signed number and back.
 // Rests on nothing; every other crate rests on it.
 ghost use mathlib.Core.Path.{_≡_};
-ghost use Prim.Native.Nat.{_+_, _*_, _<_};
+ghost use Prim.Native.Nat.{_+_, _*_, _/_, _<_, _≤_};
 ghost use lib.ListN.{drop, getD, length, take};
 ghost use mir.Syntax.{w32};
 ghost use mir.Val.{ofZ, toZ};
@@ -86,4 +86,15 @@ pub fn is_outside(size: u32, bits: u32) -> bool
         return true;
     }
     size <= bits
+}
+
+// How often b goes into a; 0 times where b is 0.
+pub fn over(a: usize, b: usize) -> usize
+    ensures { λ r. ⌜ r ≡ a / b ⌝ }
+    ensures { λ r. ⌜ r * b ≤ a ⌝ }
+{
+    if b == 0 {
+        return 0;
+    }
+    a / b
 }

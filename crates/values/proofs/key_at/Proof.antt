@@ -42,18 +42,29 @@ add-t9 c =
 -- fill: 45542fef
 returns-2 : tie.Need-returns-2
 unfolding keyed
-returns-2 c =
-    (simp (← c .before .before .before .before .before .integer-at .ensures .0, c .before .before .before .i .given .1,
-      ← c .before .is-outside .ensures, c .if1 .taken), search needs)
+returns-2 c = (
+  simp (
+    ← c .before .before .before .before .before .integer-at .ensures .0,
+    c .before .before .before .i .given .1,
+    ← c .before .is-outside .ensures,
+    c .if1 .taken,
+  ),
+  search needs,
+)
 
 -- src/lib.rt:135:1
 -- fill: f22e7cd8
 returns-3 : tie.Need-returns-3
 unfolding keyed
-returns-3 c =
-    (simp (← c .before .before .before .before .before .integer-at .ensures .0, c .before .before .before .i .given .1,
-      ← c .before .is-outside .ensures, c .if1 .left),
-      rw (c .before .before .before .i .given .1) at (c .before .before .before .before .before .integer-at .ensures .1))
+returns-3 c = (
+  simp (
+    ← c .before .before .before .before .before .integer-at .ensures .0,
+    c .before .before .before .i .given .1,
+    ← c .before .is-outside .ensures,
+    c .if1 .left,
+  ),
+  rw (c .before .before .before .i .given .1) at (c .before .before .before .before .before .integer-at .ensures .1),
+)
 
 pub key-at-spec : {M : Type 1} → statement M
 key-at-spec =

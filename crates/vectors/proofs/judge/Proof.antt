@@ -12,7 +12,7 @@ use Rattle.vectors.proofs.judge.Tie as tie
 use Rattle.vectors.proofs.judge.Reads as reads
 use Rattle.vectors.proofs.judge.Lts as lts
 use Rattle.types.proofs.row_of.Reads as row-of-reads
-use Rattle.vectors.proofs.over.Reads as over-reads
+use Rattle.words.proofs.over.Reads as over-reads
 use Rattle.vectors.proofs.vector_at.Reads as vector-at-reads
 
 abbrev Inv-loop : tie.InvT-loop

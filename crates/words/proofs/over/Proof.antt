@@ -1,10 +1,10 @@
--- `vectors::over` meets its contract.
+-- `words::over` meets its contract.
 use mathlib.Core.Path.{refl}
 use native.Mathlib.Omega.{arith}
 use native.Mathlib.Nat.{div-zero, zero-mul, div-mul-le-self}
 use borrow.Author.Needs.{needs}
-use Rattle.vectors.proofs.over.Statement.{statement}
-use Rattle.vectors.proofs.over.Tie as tie
+use Rattle.words.proofs.over.Statement.{statement}
+use Rattle.words.proofs.over.Tie as tie
 
 returns : tie.Need-returns
 returns c =

@@ -1,0 +1,3 @@
+pub mod FilterTurns
+pub mod Inside
+pub mod Turns

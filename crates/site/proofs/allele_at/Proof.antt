@@ -1,0 +1,108 @@
+-- `site::allele_at` meets its contract.
+use native.Mathlib.Omega.{arith}
+use lib.ListN.{length}
+use borrow.Author.Tests.{eq-eqb, ne-eqb}
+use Rattle.words.proofs.Places.{drop-on, length-part}
+use Rattle.site.specs.Alleles.{allele}
+use Rattle.site.proofs.Inside.{judged-inside}
+use borrow.Author.Needs.{needs}
+use Rattle.site.proofs.allele_at.Statement.{statement}
+use Rattle.site.proofs.allele_at.Tie as tie
+use Rattle.site.proofs.allele_at.Reads as reads
+use Rattle.site.proofs.allele_at.Lts as lts
+use Rattle.site.proofs.judge_allele.Reads as judge-allele-reads
+use Rattle.site.proofs.past_elements.Reads as past-elements-reads
+use Rattle.site.proofs.past_value.Reads as past-value-reads
+use Rattle.values.proofs.value_at.Reads as value-at-reads
+
+-- src/lib.rt:82:9
+value-at-requires : tie.Need-value-at-requires
+value-at-requires c κs = search needs
+
+-- src/lib.rt:85:9
+enum-known-v : tie.Need-enum-known-v
+enum-known-v c = search needs
+
+-- src/lib.rt:90:9
+enum-told : tie.Need-enum-told
+enum-told c = search needs
+
+-- src/lib.rt:90:9
+past-value-requires : tie.Need-past-value-requires
+past-value-requires c κs = search needs
+
+-- src/lib.rt:90:9
+returns : tie.Need-returns
+unfolding allele
+returns c =
+    (simp (← c .before .before .before .value-at .ensures .0, c .before .enum-told .given .1, c .past-value .ensures), rw (c .past-value .ensures, c .before .enum-told .given .1) tt)
+
+-- src/lib.rt:93:9
+returns-2 : tie.Need-returns-2
+unfolding allele
+returns-2 c =
+    (simp (← c .before .before .before .before .value-at .ensures .0, c .before .before .v .given .1, eq-eqb _ _ (c .if1 .taken)), tt)
+
+-- src/lib.rt:98:26
+sub-judge-allele : tie.Need-sub-judge-allele
+sub-judge-allele c =
+    let i = rw (c .before .before .v .given .1) at (c .before .before .before .before .value-at .ensures .1) in
+    omega (arith, i)
+
+-- src/lib.rt:98:26
+part-judge-allele-start : tie.Need-part-judge-allele-start
+part-judge-allele-start c =
+    let i = rw (c .before .before .v .given .1) at (c .before .before .before .before .value-at .ensures .1) in
+    omega (arith, i)
+
+-- src/lib.rt:98:26
+part-judge-allele-end : tie.Need-part-judge-allele-end
+part-judge-allele-end c =
+    let i = rw (c .before .before .v .given .1) at (c .before .before .before .before .value-at .ensures .1) in
+    omega (arith, i)
+
+-- src/lib.rt:98:9
+judge-allele-requires : tie.Need-judge-allele-requires
+judge-allele-requires c κs = search needs
+
+-- src/lib.rt:99:5
+past-elements-requires : tie.Need-past-elements-requires
+past-elements-requires c κs =
+    let i = rw (c .before .before .before .before .v .given .1) at (c .before .before .before .before .before .before .value-at .ensures .1) in
+    let d = c .before .before .before .before .v .given .0 .1 .1 in
+    (i .1, rw (length-part (c .before .before .before .before .before .before .before .before .args .block .now) (d .0) (d .1 .0) (i .1) (i .2)) at (c .judge-allele .ensures .1))
+
+-- src/lib.rt:78:1
+returns-3 : tie.Need-returns-3
+unfolding allele
+returns-3 c =
+    let a = c .before .before .before .before .before .before .before .before .before .args in
+    let i = rw (c .before .before .before .before .before .v .given .1) at (c .before .before .before .before .before .before .before .value-at .ensures .1) in
+    let d = c .before .before .before .before .before .v .given .0 .1 .1 in (
+      simp (
+        ← c .before .before .before .before .before .before .before .value-at .ensures .0,
+        c .before .before .before .before .before .v .given .1,
+        ne-eqb _ _ (c .before .before .before .if1 .left),
+        drop-on (a .block .now) (a .at) (d .0) (omega (arith, i)),
+        ← c .before .judge-allele .ensures .0,
+        c .past-elements .ensures,
+      ),
+      rw (c .past-elements .ensures) (judged-inside (c .before .judge-allele .result) (a .at) (d .0) (d .1 .0) (length (a .block .now)) (omega (arith, i)) (i .2)),
+    )
+
+pub allele-at-spec : {M : Type 1} → statement M
+allele-at-spec =
+    tie.close
+    (tie.spec
+    value-at-requires
+    enum-known-v
+    enum-told
+    past-value-requires
+    returns
+    returns-2
+    sub-judge-allele
+    part-judge-allele-start
+    part-judge-allele-end
+    judge-allele-requires
+    past-elements-requires
+    returns-3)

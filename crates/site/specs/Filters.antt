@@ -1,0 +1,53 @@
+-- FILTER: integers, each an offset below the dictionary's size, none twice; marks are no offsets. Rests on values.
+use Prim.Native.Nat.{ℕ, zero, suc, _+_, _-_, _*_, _/_}
+use mathlib.Core.List.{List, [], _∷_}
+use mathlib.Core.Bool.{Bool, true, false}
+use lib.Dec.{eqb}
+use lib.ListN.{length, take, drop}
+use Rattle.words.specs.Pick.{pick}
+use Rattle.words.specs.Words.{number, outside}
+use Rattle.types.specs.Rows.{widthOf}
+use Rattle.types.specs.Elements.{shown}
+use Rattle.types.specs.declared.Use.the-variants.{Filter}
+use Rattle.values.specs.Values.{present}
+use Rattle.values.specs.declared.Value.{Value}
+use Rattle.values.specs.declared.Value.the-variants.{Present, Refused as NoValue}
+use Rattle.vectors.specs.Vectors.{unsound}
+use Rattle.vectors.specs.declared.Judged.{Judged}
+use Rattle.vectors.specs.declared.Judged.the-variants.{Sound}
+use Rattle.site.specs.Steps.{judgedStep}
+use Rattle.site.specs.declared.Step.{Step}
+use Rattle.site.specs.declared.Step.the-variants.{Refused}
+
+-- the first n elements of type t and width w, as they are shown
+unfoldable pub offsets : ℕ → ℕ → ℕ → List ℕ → List ℕ
+offsets t w zero l = []
+offsets t w (suc n) l = shown t (number w l) ∷ offsets t w n (drop w l)
+
+-- the first n elements, the last of them first
+unfoldable pub before : ℕ → ℕ → ℕ → List ℕ → List ℕ
+before t w zero l = []
+before t w (suc n) l = shown t (number w (drop (n * w) l)) ∷ before t w n l
+
+-- whether a number is in a list
+unfoldable pub among : ℕ → List ℕ → Bool
+among x [] = false
+among x (y ∷ ys) = pick (eqb y x) true (among x ys)
+
+-- by element: 8 where it is no offset below the dictionary's size, then 11 where it stood earlier
+unfoldable pub filters : ℕ → ℕ → ℕ → List ℕ → List ℕ → Judged
+filters strings w at earlier [] = Sound
+filters strings w at earlier (x ∷ xs) =
+    let on = filters strings w (at + w) (x ∷ earlier) xs in
+    pick (outside strings x) (unsound 8 at) (pick (among x earlier) (unsound 11 at) on)
+
+-- the elements of a part; places count from its start
+unfoldable pub filtered : ℕ → ℕ → List ℕ → Judged
+filtered strings t l = filters strings (widthOf t) 0 [] (offsets t (widthOf t) (length l / widthOf t) l)
+
+abbrev pub filterValue : ℕ → ℕ → List ℕ → Value → Step
+filterValue strings at l (NoValue r) = Refused r
+filterValue strings at l (Present t n first stop) = judgedStep first stop (filtered strings t (take (stop - first) (drop (first - at) l)))
+
+unfoldable pub filter : ℕ → ℕ → List ℕ → Step
+filter strings at l = filterValue strings at l (present 1 Filter at l)

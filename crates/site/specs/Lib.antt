@@ -1,0 +1,4 @@
+pub mod Steps
+pub mod Alleles
+pub mod Filters
+pub mod Site
