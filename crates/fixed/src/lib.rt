@@ -23,9 +23,9 @@ pub struct Site {
     pub pos: u32,
     pub rlen: u32,
     pub qual: u32,
-    pub alleles: u32,
-    pub infos: u32,
-    pub formats: u32,
+    pub alleles: u16,
+    pub infos: u16,
+    pub formats: u8,
     pub people: u32,
 }
 
@@ -202,9 +202,9 @@ pub fn fixed_fields(s: &[u8], facts: Facts) -> Fixed
         pos,
         rlen,
         qual,
-        alleles: counts / 65536,
-        infos: counts % 65536,
-        formats: members / 16777216,
+        alleles: (counts / 65536) as u16,
+        infos: (counts % 65536) as u16,
+        formats: (members / 16777216) as u8,
         people: members % 16777216,
     })
 }

@@ -9,12 +9,13 @@ use native.Mathlib.Nat.{suc-mul}
 use lib.Dec.{eqb}
 use lib.ListN.{drop}
 use lib.Seq.{drop-drop}
+use Rattle.words.specs.Lists.{among}
 use Rattle.words.specs.Pick.{pick}
 use Rattle.words.specs.Words.{number, outside}
 use Rattle.types.specs.Elements.{shown}
 use Rattle.vectors.specs.Vectors.{unsound}
 use Rattle.vectors.specs.declared.Judged.{Judged}
-use Rattle.site.specs.Filters.{offsets, before, among, filters}
+use Rattle.site.specs.Filters.{offsets, before, filters}
 
 -- one element fewer
 pub one-fewer : (n w : ℕ) → 0 < n → n * w ≡ (n - 1) * w + w

@@ -1,9 +1,8 @@
 -- FILTER: integers, each an offset below the dictionary's size, none twice; marks are no offsets. Rests on values.
 use Prim.Native.Nat.{ℕ, zero, suc, _+_, _-_, _*_, _/_}
 use mathlib.Core.List.{List, [], _∷_}
-use mathlib.Core.Bool.{Bool, true, false}
-use lib.Dec.{eqb}
 use lib.ListN.{length, take, drop}
+use Rattle.words.specs.Lists.{among}
 use Rattle.words.specs.Pick.{pick}
 use Rattle.words.specs.Words.{number, outside}
 use Rattle.types.specs.Rows.{widthOf}
@@ -28,11 +27,6 @@ offsets t w (suc n) l = shown t (number w l) ∷ offsets t w n (drop w l)
 unfoldable pub before : ℕ → ℕ → ℕ → List ℕ → List ℕ
 before t w zero l = []
 before t w (suc n) l = shown t (number w (drop (n * w) l)) ∷ before t w n l
-
--- whether a number is in a list
-unfoldable pub among : ℕ → List ℕ → Bool
-among x [] = false
-among x (y ∷ ys) = pick (eqb y x) true (among x ys)
 
 -- by element: 8 where it is no offset below the dictionary's size, then 11 where it stood earlier
 unfoldable pub filters : ℕ → ℕ → ℕ → List ℕ → List ℕ → Judged

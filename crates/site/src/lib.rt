@@ -3,10 +3,11 @@
 ghost use mathlib.Core.Path.{_≡_};
 ghost use Prim.Native.Nat.{_*_, _-_, _≤_};
 ghost use lib.ListN.{drop, length};
+ghost use Rattle.words.specs.Lists.{among};
 ghost use Rattle.vectors.specs.Vectors.{judgedInside};
 ghost use Rattle.site.specs.Steps.{stepInside, times, valueStep, keyStep, judgedStep};
 ghost use Rattle.site.specs.Alleles.{alleleBytes, allele};
-ghost use Rattle.site.specs.Filters.{before, among, filtered, filter};
+ghost use Rattle.site.specs.Filters.{before, filtered, filter};
 ghost use Rattle.site.specs.Site.{info, site};
 use types::Use;
 use values::Integer;

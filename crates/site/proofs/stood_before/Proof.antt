@@ -4,9 +4,10 @@ use Prim.Native.Nat.{_+_, _-_, _*_, _≤_}
 use native.Mathlib.Omega.{arith}
 use lib.ListN.{length}
 use borrow.Author.Tests.{eq-eqb, ne-eqb}
+use Rattle.words.specs.Lists.{among}
 use Rattle.words.proofs.Words.{number-between}
 use Rattle.types.specs.Elements.{shown}
-use Rattle.site.specs.Filters.{among, before}
+use Rattle.site.specs.Filters.{before}
 use Rattle.site.proofs.FilterTurns.{one-fewer, among-turn}
 use borrow.Author.Needs.{needs}
 use Rattle.site.proofs.stood_before.Statement.{statement}

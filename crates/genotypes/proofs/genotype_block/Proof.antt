@@ -1,0 +1,197 @@
+-- `genotypes::genotype_block` meets its contract. The loop's invariant: the fields from the start on are those that are left, after the keys in the array.
+use mathlib.Core.Path.{_≡_, _∙_, sym}
+use mathlib.Core.List.{[]}
+use Prim.Native.Nat.{_+_}
+use native.Mathlib.Omega.{arith}
+use lib.ListN.{drop, length, take, length-set}
+use borrow.Author.Tests.{le-leb, lt-leb}
+use Rattle.words.proofs.Places.{drop-on}
+use Rattle.genotypes.specs.Formats.{formats, noGt}
+use Rattle.genotypes.proofs.Turns.{formats-turn, formats-field, formats-end, keys-more}
+use borrow.Author.Needs.{needs}
+use Rattle.genotypes.proofs.genotype_block.Statement.{statement}
+use Rattle.genotypes.proofs.genotype_block.Tie as tie
+use Rattle.genotypes.proofs.genotype_block.Reads as reads
+use Rattle.genotypes.proofs.genotype_block.Lts as lts
+use Rattle.genotypes.proofs.gt_after.Reads as gt-after-reads
+use Rattle.genotypes.proofs.is_repeated.Reads as is-repeated-reads
+use Rattle.genotypes.proofs.key_refused.Reads as key-refused-reads
+use Rattle.genotypes.proofs.role_of.Reads as role-of-reads
+use Rattle.genotypes.proofs.value_refused.Reads as value-refused-reads
+use Rattle.values.proofs.key_at.Reads as key-at-reads
+use Rattle.vectors.proofs.sound_value_at.Reads as sound-value-at-reads
+
+abbrev Inv-loop : tie.InvT-loop
+Inv-loop block from alleles count strings people offset keys₀ seen₀ left₀ at₀ gt₀ keys seen left at gt =
+    (formats strings people offset alleles count [] noGt from (drop from block)
+    ≡ formats strings people offset alleles left (take seen keys) gt at (drop at block))
+    × (seen + left ≡ count) × (length keys ≡ 256)
+
+abbrev μ-loop : tie.MeasureT-loop
+μ-loop block from alleles count strings people offset keys₀ seen₀ left₀ at₀ gt₀ keys seen left at gt = left
+
+-- src/lib.rt:112:5
+loop-holds : tie.Need-loop-holds Inv-loop μ-loop
+loop-holds c = search needs
+
+-- src/lib.rt:113:13
+key-at-requires : tie.Need-key-at-requires Inv-loop μ-loop
+key-at-requires c κs = search needs
+
+-- src/lib.rt:114:28
+enum-known-k : tie.Need-enum-known-k Inv-loop μ-loop
+enum-known-k c = search needs
+
+-- src/lib.rt:115:13
+enum-told : tie.Need-enum-told Inv-loop μ-loop
+enum-told c = search needs
+
+-- src/lib.rt:115:13
+key-refused-requires : tie.Need-key-refused-requires Inv-loop μ-loop
+key-refused-requires c κs = search needs
+
+-- src/lib.rt:115:13
+returns : tie.Need-returns Inv-loop μ-loop
+returns c =
+    rw (c .before .before .before .before .before .loop .inv .0, formats-turn _ _ _ _ _ _ _ _ _ (c .before .before .before .before .loop-test .taken), ← c .before .before .before .key-at .ensures .0, c .before .enum-told .given .1, c .key-refused .ensures, c .before .enum-told .given .1)
+
+-- src/lib.rt:117:12
+is-repeated-requires : tie.Need-is-repeated-requires Inv-loop μ-loop
+is-repeated-requires c κs = search needs
+
+-- src/lib.rt:120:24
+add-t25 : tie.Need-add-t25 Inv-loop μ-loop
+add-t25 c =
+    let i = rw (c .before .before .before .before .k .given .1) at (c .before .before .before .before .before .before .key-at .ensures .1) in
+    omega (arith, i)
+
+-- src/lib.rt:118:13
+returns-2 : tie.Need-returns-2 Inv-loop μ-loop
+returns-2 c =
+    rw (c .before .before .before .before .before .before .before .before .loop .inv .0, formats-turn _ _ _ _ _ _ _ _ _ (c .before .before .before .before .before .before .before .loop-test .taken), ← c .before .before .before .before .before .before .key-at .ensures .0, c .before .before .before .before .k .given .1, ← c .before .is-repeated .ensures, c .if1 .taken)
+
+-- src/lib.rt:123:54
+role-of-requires : tie.Need-role-of-requires Inv-loop μ-loop
+role-of-requires c κs = search needs
+
+-- src/lib.rt:123:13
+sound-value-at-requires : tie.Need-sound-value-at-requires Inv-loop μ-loop
+sound-value-at-requires c κs = search needs
+
+-- src/lib.rt:125:13
+enum-known-v : tie.Need-enum-known-v Inv-loop μ-loop
+enum-known-v c = search needs
+
+-- src/lib.rt:131:13
+enum-told-2 : tie.Need-enum-told-2 Inv-loop μ-loop
+enum-told-2 c = search needs
+
+-- src/lib.rt:131:13
+value-refused-requires : tie.Need-value-refused-requires Inv-loop μ-loop
+value-refused-requires c κs = search needs
+
+-- src/lib.rt:131:13
+returns-3 : tie.Need-returns-3 Inv-loop μ-loop
+returns-3 c =
+    let a = c .before .before .before .before .before .before .before .before .before .before .before .before .before .before .before .args in
+    let l = c .before .before .before .before .before .before .before .before .before .before .before .before .before .loop in
+    let n = c .before .before .before .before .before .before .before .before .before .k .given .0 .1 .0 in
+    let i = rw (c .before .before .before .before .before .before .before .before .before .k .given .1) at (c .before .before .before .before .before .before .before .before .before .before .before .key-at .ensures .1) in
+    rw (l .inv .0, formats-turn _ _ _ _ _ _ _ _ _ (c .before .before .before .before .before .before .before .before .before .before .before .before .loop-test .taken)) (simp (
+      ← c .before .before .before .before .before .before .before .before .before .before .before .key-at .ensures .0,
+      c .before .before .before .before .before .before .before .before .before .k .given .1,
+      ← c .before .before .before .before .before .before .is-repeated .ensures,
+      c .before .before .before .before .before .if1 .left,
+      drop-on (a .block .now) (l .at) n (omega (arith, i)),
+      ← c .before .before .before .before .role-of .ensures,
+      ← c .before .before .before .sound-value-at .ensures .0,
+      c .before .enum-told2 .given .1,
+      c .value-refused .ensures,
+    ))
+
+-- src/lib.rt:133:9
+gt-after-requires : tie.Need-gt-after-requires Inv-loop μ-loop
+gt-after-requires c κs = search needs
+
+-- src/lib.rt:134:9
+mul-keys : tie.Need-mul-keys Inv-loop μ-loop
+mul-keys c = search needs
+
+-- src/lib.rt:134:9
+array-write-keys : tie.Need-array-write-keys Inv-loop μ-loop
+array-write-keys c = search needs
+
+-- src/lib.rt:135:9
+add-seen : tie.Need-add-seen Inv-loop μ-loop
+add-seen c = search needs
+
+-- src/lib.rt:137:9
+sub-left : tie.Need-sub-left Inv-loop μ-loop
+sub-left c = search needs
+
+-- src/lib.rt:112:5
+loop-less : tie.Need-loop-less Inv-loop μ-loop
+loop-less c = search needs
+
+-- src/lib.rt:112:5
+loop-again : tie.Need-loop-again Inv-loop μ-loop
+loop-again c =
+    let a = c .before .before .before .before .before .before .before .before .before .before .before .before .before .before .before .before .args in
+    let l = c .before .before .before .before .before .before .before .before .before .before .before .before .before .before .loop in
+    let h = c .before .before .before .before .before .before .before .before .before .before .before .before .before .loop-test .taken in
+    let i = rw (c .before .before .before .before .before .before .before .before .before .before .k .given .1) at (c .before .before .before .before .before .before .before .before .before .before .before .before .key-at .ensures .1) in
+    let j = rw (c .before .before .v .given .1) at (c .before .before .before .before .sound-value-at .ensures .1) in
+    let k = rw (c .before .before .before .before .before .before .before .before .before .before .k .given .1) at (c .before .before .before .before .before .before .before .before .before .before .before .before .key-at .ensures .0) in
+    let r = rw (c .before .before .before .before .before .before .if1 .left) at (c .before .before .before .before .before .before .before .is-repeated .ensures) in
+    let v = rw (c .before .before .v .given .1, c .before .before .before .before .before .role-of .ensures) at (c .before .before .before .before .sound-value-at .ensures .0) in (
+      l .inv .0
+          ∙ formats-field _ _ _ _ _ _ _ _ _ h (sym k) (omega (arith, i)) (sym r) (sym v) (omega (arith, j))
+          ∙ rw (keys-more (l .keys) (l .seen) _ (omega (arith, l .inv .1, l .inv .2, c .before .before .before .before .before .before .before .before .before .before .before .before .before .before .before .before .fits .count, h)), c .gt-after .ensures),
+      omega arith,
+      simp length-set (l .inv .2),
+    )
+
+-- src/lib.rt:140:9
+returns-4 : tie.Need-returns-4 Inv-loop μ-loop
+returns-4 c =
+    let l = c .before .before .loop in
+    let z : l .left ≡ 0 = omega arith in
+    rw (l .inv .0, z, formats-end, le-leb _ _ (c .if2 .taken))
+
+-- src/lib.rt:97:1
+returns-5 : tie.Need-returns-5 Inv-loop μ-loop
+returns-5 c =
+    let l = c .before .before .loop in
+    let z : l .left ≡ 0 = omega arith in
+    rw (l .inv .0, z, formats-end, lt-leb _ _ (c .if2 .left))
+
+pub genotype-block-spec : {M : Type 1} → statement M
+genotype-block-spec =
+    tie.close
+    (tie.spec
+    Inv-loop
+    μ-loop
+    loop-holds
+    key-at-requires
+    enum-known-k
+    enum-told
+    key-refused-requires
+    returns
+    is-repeated-requires
+    add-t25
+    returns-2
+    role-of-requires
+    sound-value-at-requires
+    enum-known-v
+    enum-told-2
+    value-refused-requires
+    returns-3
+    gt-after-requires
+    mul-keys
+    array-write-keys
+    add-seen
+    sub-left
+    loop-less
+    loop-again
+    returns-4
+    returns-5)

@@ -1,0 +1,146 @@
+// The genotype block: FORMAT fields, each a key and a vector for each person, no key twice, to the block's last byte.
+// The block is lent up to its end. Rests on values and vectors, and on fixed for the header's facts.
+ghost use mathlib.Core.Path.{_≡_};
+ghost use Prim.Native.Nat.{_≤_};
+ghost use lib.ListN.{drop, length, take};
+ghost use mathlib.Core.List.{[]};
+ghost use Rattle.words.specs.Lists.{among};
+ghost use Rattle.genotypes.specs.Formats.{roleOf, gtNow, noGt, keyRefused, valueRefused, formats};
+use fixed::Facts;
+use types::Use;
+use values::Integer;
+use values::Refusal;
+use values::Value;
+
+// Where GT stands: its type, its length for each person and the place of its first element. Type 0 says that there is no GT.
+pub struct Gt {
+    pub code: u8,
+    pub len: u32,
+    pub first: usize,
+}
+
+// A genotype block that is sound, with its GT; or its refusal.
+pub enum Genotypes {
+    Sound(Gt),
+    Refused(Refusal),
+}
+
+// The refusal of a key.
+fn key_refused(k: Integer) -> Genotypes
+    ensures { λ r. ⌜ r ≡ keyRefused k ⌝ }
+{
+    match k {
+        Integer::One { bits: _, next: _ } => Genotypes::Sound(Gt {
+            code: 0,
+            len: 0,
+            first: 0,
+        }),
+        Integer::Refused(r) => Genotypes::Refused(r),
+    }
+}
+
+// The refusal of a value.
+fn value_refused(v: Value) -> Genotypes
+    ensures { λ r. ⌜ r ≡ valueRefused v ⌝ }
+{
+    match v {
+        Value::Present {
+            code: _,
+            len: _,
+            first: _,
+            stop: _,
+        } => Genotypes::Sound(Gt {
+            code: 0,
+            len: 0,
+            first: 0,
+        }),
+        Value::Refused(r) => Genotypes::Refused(r),
+    }
+}
+
+// The use of a FORMAT value by its key.
+fn role_of(key: u32, gt: u32) -> Use
+    ensures { λ r. ⌜ r ≡ roleOf key gt ⌝ }
+{
+    if key == gt {
+        return Use::Gt;
+    }
+    Use::Format
+}
+
+// GT after a field: that field where its key is GT's, else as it was.
+fn gt_after(key: u32, gt: u32, field: Gt, known: Gt) -> Gt
+    ensures { λ r. ⌜ r ≡ gtNow key gt field known ⌝ }
+{
+    if key == gt {
+        return field;
+    }
+    known
+}
+
+// Whether a key is among the earlier ones, looked at from the front of the block.
+fn is_repeated(keys: &[u32; 256], count: usize, key: u32) -> bool
+    requires { ⌜ (count ≤ 256) × (count ≤ length (now keys)) ⌝ }
+    ensures { λ r. ⌜ r ≡ among key (take count (now (keys .entry))) ⌝ }
+{
+    let mut i = 0;
+    while i < count {
+        if keys[i] == key {
+            return true;
+        }
+        i += 1;
+    }
+    false
+}
+
+// So many FORMAT fields from a place on, to the end of the block.
+pub fn genotype_block(block: &[u8], from: usize, facts: Facts, alleles: u32, count: u8) -> Genotypes
+    ensures { λ r. ⌜ r ≡ formats (facts .strings) (facts .people) (facts .gt) alleles count [] noGt from (drop from (now (block .entry))) ⌝ }
+{
+    let strings = facts.strings;
+    let people = facts.people;
+    let offset = facts.gt;
+    let mut keys = [0u32; 256];
+    let mut seen = 0;
+    let mut left = count;
+    let mut at = from;
+    let mut gt = Gt {
+        code: 0,
+        len: 0,
+        first: 0,
+    };
+    while 0 < left {
+        let k = values::key_at(block, at, strings);
+        let Integer::One { bits, next } = k else {
+            return key_refused(k);
+        };
+        if is_repeated(&keys, seen, bits) {
+            return Genotypes::Refused(Refusal {
+                number: 11,
+                place: at + 1,
+            });
+        }
+        let v = vectors::sound_value_at(block, next, role_of(bits, offset), people, alleles);
+        let Value::Present {
+            code,
+            len,
+            first,
+            stop,
+        } = v
+        else {
+            return value_refused(v);
+        };
+        gt = gt_after(bits, offset, Gt { code, len, first }, gt);
+        keys[seen] = bits;
+        seen += 1;
+        at = stop;
+        left -= 1;
+    }
+    if block.len() <= at {
+        return Genotypes::Sound(gt);
+    }
+    Genotypes::Refused(Refusal {
+        number: 4,
+        place: at,
+    })
+}
