@@ -42,6 +42,9 @@ pub enum Fixed {
 }
 
 // The places of the fixed fields, of four bytes each.
+// What stands after them begins here, with ID.
+pub const ID: usize = 32;
+
 const CHROM: usize = 8;
 
 const POS: usize = 12;
@@ -86,7 +89,7 @@ pub fn blocks_of(s: &[u8]) -> Blocks
             place: 0,
         });
     }
-    if border < 32 {
+    if border < ID {
         return Blocks::Refused(Refusal {
             number: 3,
             place: border,

@@ -1,6 +1,6 @@
+-- `fixed::blocks_of` meets its contract.
 use borrow.Author.Tests.{le-ltb, lt-ltb}
 use Rattle.fixed.specs.Fixed.{blocks}
--- `fixed::blocks_of` meets its contract.
 use borrow.Author.Needs.{needs}
 use Rattle.fixed.proofs.blocks_of.Statement.{statement}
 use Rattle.fixed.proofs.blocks_of.Tie as tie

@@ -1,6 +1,6 @@
+-- `fixed::fixed_fields` meets its contract.
 use borrow.Author.Tests.{eq-eqb, le-leb, lt-leb, ne-eqb}
 use Rattle.fixed.specs.Fixed.{fixed}
--- `fixed::fixed_fields` meets its contract.
 use borrow.Author.Needs.{needs}
 use Rattle.fixed.proofs.fixed_fields.Statement.{statement}
 use Rattle.fixed.proofs.fixed_fields.Tie as tie
@@ -49,9 +49,16 @@ is-outside-requires c κs = search needs
 -- fill: cf2f52be
 returns-2 : tie.Need-returns-2
 unfolding fixed
-returns-2 c =
-    (simp (← c .before .before .before .before .before .before .blocks-of .ensures .0, c .before .before .before .before .b .given .1,
-      ← c .before .before .field-at .ensures, ← c .before .is-outside .ensures, c .if1 .taken), search needs)
+returns-2 c = (
+  simp (
+    ← c .before .before .before .before .before .before .blocks-of .ensures .0,
+    c .before .before .before .before .b .given .1,
+    ← c .before .before .field-at .ensures,
+    ← c .before .is-outside .ensures,
+    c .if1 .taken,
+  ),
+  search needs,
+)
 
 -- src/lib.rt:163:9
 field-at-requires-2 : tie.Need-field-at-requires-2
@@ -65,12 +72,19 @@ pos-wrong-requires c κs = search needs
 -- fill: a337c1b6
 returns-3 : tie.Need-returns-3
 unfolding fixed
-returns-3 c =
-    (simp (← c .before .before .before .before .before .before .before .before .before .blocks-of .ensures .0,
-      c .before .before .before .before .before .before .before .b .given .1,
-      ← c .before .before .before .before .before .field-at .ensures, ← c .before .before .before .before .is-outside .ensures,
-      c .before .before .before .if1 .left, ← c .before .before .field-at2 .ensures, ← c .before .pos-wrong .ensures, c .if2 .taken),
-      search needs)
+returns-3 c = (
+  simp (
+    ← c .before .before .before .before .before .before .before .before .before .blocks-of .ensures .0,
+    c .before .before .before .before .before .before .before .b .given .1,
+    ← c .before .before .before .before .before .field-at .ensures,
+    ← c .before .before .before .before .is-outside .ensures,
+    c .before .before .before .if1 .left,
+    ← c .before .before .field-at2 .ensures,
+    ← c .before .pos-wrong .ensures,
+    c .if2 .taken,
+  ),
+  search needs,
+)
 
 -- src/lib.rt:170:9
 field-at-requires-3 : tie.Need-field-at-requires-3
@@ -80,13 +94,21 @@ field-at-requires-3 c κs = search needs
 -- fill: 5ab79b96
 returns-4 : tie.Need-returns-4
 unfolding fixed
-returns-4 c =
-    (simp (← c .before .before .before .before .before .before .before .before .before .before .before .blocks-of .ensures .0,
-      c .before .before .before .before .before .before .before .before .before .b .given .1,
-      ← c .before .before .before .before .before .before .before .field-at .ensures,
-      ← c .before .before .before .before .before .before .is-outside .ensures, c .before .before .before .before .before .if1 .left,
-      ← c .before .before .before .before .field-at2 .ensures, ← c .before .before .before .pos-wrong .ensures,
-      c .before .before .if2 .left, ← c .before .field-at3 .ensures, le-leb _ _ (c .if3 .taken)), search needs)
+returns-4 c = (
+  simp (
+    ← c .before .before .before .before .before .before .before .before .before .before .before .blocks-of .ensures .0,
+    c .before .before .before .before .before .before .before .before .before .b .given .1,
+    ← c .before .before .before .before .before .before .before .field-at .ensures,
+    ← c .before .before .before .before .before .before .is-outside .ensures,
+    c .before .before .before .before .before .if1 .left,
+    ← c .before .before .before .before .field-at2 .ensures,
+    ← c .before .before .before .pos-wrong .ensures,
+    c .before .before .if2 .left,
+    ← c .before .field-at3 .ensures,
+    le-leb _ _ (c .if3 .taken),
+  ),
+  search needs,
+)
 
 -- src/lib.rt:177:9
 field-at-requires-4 : tie.Need-field-at-requires-4
@@ -96,16 +118,23 @@ field-at-requires-4 c κs = search needs
 -- fill: 438dcc3b
 returns-5 : tie.Need-returns-5
 unfolding fixed
-returns-5 c =
-    (simp (← c .before .before .before .before .before .before .before .before .before .before .before .before .before .blocks-of .ensures .0,
-      c .before .before .before .before .before .before .before .before .before .before .before .b .given .1,
-      ← c .before .before .before .before .before .before .before .before .before .field-at .ensures,
-      ← c .before .before .before .before .before .before .before .before .is-outside .ensures,
-      c .before .before .before .before .before .before .before .if1 .left,
-      ← c .before .before .before .before .before .before .field-at2 .ensures,
-      ← c .before .before .before .before .before .pos-wrong .ensures, c .before .before .before .before .if2 .left,
-      ← c .before .before .before .field-at3 .ensures, lt-leb _ _ (c .before .before .if3 .left), ← c .before .field-at4 .ensures,
-      eq-eqb _ _ (c .if4 .taken)), search needs)
+returns-5 c = (
+  simp (
+    ← c .before .before .before .before .before .before .before .before .before .before .before .before .before .blocks-of .ensures .0,
+    c .before .before .before .before .before .before .before .before .before .before .before .b .given .1,
+    ← c .before .before .before .before .before .before .before .before .before .field-at .ensures,
+    ← c .before .before .before .before .before .before .before .before .is-outside .ensures,
+    c .before .before .before .before .before .before .before .if1 .left,
+    ← c .before .before .before .before .before .before .field-at2 .ensures,
+    ← c .before .before .before .before .before .pos-wrong .ensures,
+    c .before .before .before .before .if2 .left,
+    ← c .before .before .before .field-at3 .ensures,
+    lt-leb _ _ (c .before .before .if3 .left),
+    ← c .before .field-at4 .ensures,
+    eq-eqb _ _ (c .if4 .taken),
+  ),
+  search needs,
+)
 
 -- src/lib.rt:184:9
 field-at-requires-5 : tie.Need-field-at-requires-5
@@ -119,19 +148,26 @@ people-wrong-requires c κs = search needs
 -- fill: bdc6c2a8
 returns-6 : tie.Need-returns-6
 unfolding fixed
-returns-6 c =
-    (simp (← c .before .before .before .before .before .before .before .before .before .before .before .before .before .before .before .before .blocks-of .ensures .0,
-      c .before .before .before .before .before .before .before .before .before .before .before .before .before .before .b .given .1,
-      ← c .before .before .before .before .before .before .before .before .before .before .before .before .field-at .ensures,
-      ← c .before .before .before .before .before .before .before .before .before .before .before .is-outside .ensures,
-      c .before .before .before .before .before .before .before .before .before .before .if1 .left,
-      ← c .before .before .before .before .before .before .before .before .before .field-at2 .ensures,
-      ← c .before .before .before .before .before .before .before .before .pos-wrong .ensures,
-      c .before .before .before .before .before .before .before .if2 .left,
-      ← c .before .before .before .before .before .before .field-at3 .ensures,
-      lt-leb _ _ (c .before .before .before .before .before .if3 .left), ← c .before .before .before .before .field-at4 .ensures,
-      ne-eqb _ _ (c .before .before .before .if4 .left), ← c .before .before .field-at5 .ensures, ← c .before .people-wrong .ensures,
-      c .if5 .taken), search needs)
+returns-6 c = (
+  simp (
+    ← c .before .before .before .before .before .before .before .before .before .before .before .before .before .before .before .before .blocks-of .ensures .0,
+    c .before .before .before .before .before .before .before .before .before .before .before .before .before .before .b .given .1,
+    ← c .before .before .before .before .before .before .before .before .before .before .before .before .field-at .ensures,
+    ← c .before .before .before .before .before .before .before .before .before .before .before .is-outside .ensures,
+    c .before .before .before .before .before .before .before .before .before .before .if1 .left,
+    ← c .before .before .before .before .before .before .before .before .before .field-at2 .ensures,
+    ← c .before .before .before .before .before .before .before .before .pos-wrong .ensures,
+    c .before .before .before .before .before .before .before .if2 .left,
+    ← c .before .before .before .before .before .before .field-at3 .ensures,
+    lt-leb _ _ (c .before .before .before .before .before .if3 .left),
+    ← c .before .before .before .before .field-at4 .ensures,
+    ne-eqb _ _ (c .before .before .before .if4 .left),
+    ← c .before .before .field-at5 .ensures,
+    ← c .before .people-wrong .ensures,
+    c .if5 .taken,
+  ),
+  search needs,
+)
 
 -- src/lib.rt:191:9
 field-at-requires-6 : tie.Need-field-at-requires-6
@@ -145,22 +181,29 @@ qual-wrong-requires c κs = search needs
 -- fill: ae011d00
 returns-7 : tie.Need-returns-7
 unfolding fixed
-returns-7 c =
-    (simp (← c .before .before .before .before .before .before .before .before .before .before .before .before .before .before .before .before .before .before .before .blocks-of .ensures .0,
-      c .before .before .before .before .before .before .before .before .before .before .before .before .before .before .before .before .before .b .given .1,
-      ← c .before .before .before .before .before .before .before .before .before .before .before .before .before .before .before .field-at .ensures,
-      ← c .before .before .before .before .before .before .before .before .before .before .before .before .before .before .is-outside .ensures,
-      c .before .before .before .before .before .before .before .before .before .before .before .before .before .if1 .left,
-      ← c .before .before .before .before .before .before .before .before .before .before .before .before .field-at2 .ensures,
-      ← c .before .before .before .before .before .before .before .before .before .before .before .pos-wrong .ensures,
-      c .before .before .before .before .before .before .before .before .before .before .if2 .left,
-      ← c .before .before .before .before .before .before .before .before .before .field-at3 .ensures,
-      lt-leb _ _ (c .before .before .before .before .before .before .before .before .if3 .left),
-      ← c .before .before .before .before .before .before .before .field-at4 .ensures,
-      ne-eqb _ _ (c .before .before .before .before .before .before .if4 .left),
-      ← c .before .before .before .before .before .field-at5 .ensures, ← c .before .before .before .before .people-wrong .ensures,
-      c .before .before .before .if5 .left, ← c .before .before .field-at6 .ensures, ← c .before .qual-wrong .ensures, c .if6 .taken),
-      search needs)
+returns-7 c = (
+  simp (
+    ← c .before .before .before .before .before .before .before .before .before .before .before .before .before .before .before .before .before .before .before .blocks-of .ensures .0,
+    c .before .before .before .before .before .before .before .before .before .before .before .before .before .before .before .before .before .b .given .1,
+    ← c .before .before .before .before .before .before .before .before .before .before .before .before .before .before .before .field-at .ensures,
+    ← c .before .before .before .before .before .before .before .before .before .before .before .before .before .before .is-outside .ensures,
+    c .before .before .before .before .before .before .before .before .before .before .before .before .before .if1 .left,
+    ← c .before .before .before .before .before .before .before .before .before .before .before .before .field-at2 .ensures,
+    ← c .before .before .before .before .before .before .before .before .before .before .before .pos-wrong .ensures,
+    c .before .before .before .before .before .before .before .before .before .before .if2 .left,
+    ← c .before .before .before .before .before .before .before .before .before .field-at3 .ensures,
+    lt-leb _ _ (c .before .before .before .before .before .before .before .before .if3 .left),
+    ← c .before .before .before .before .before .before .before .field-at4 .ensures,
+    ne-eqb _ _ (c .before .before .before .before .before .before .if4 .left),
+    ← c .before .before .before .before .before .field-at5 .ensures,
+    ← c .before .before .before .before .people-wrong .ensures,
+    c .before .before .before .if5 .left,
+    ← c .before .before .field-at6 .ensures,
+    ← c .before .qual-wrong .ensures,
+    c .if6 .taken,
+  ),
+  search needs,
+)
 
 -- src/lib.rt:205:18
 cast-t26 : tie.Need-cast-t26
@@ -178,22 +221,29 @@ cast-t29 c = search needs
 -- fill: 0db803ca
 returns-8 : tie.Need-returns-8
 unfolding fixed
-returns-8 c =
-    (simp (← c .before .before .before .before .before .before .before .before .before .before .before .before .before .before .before .before .before .before .before .blocks-of .ensures .0,
-      c .before .before .before .before .before .before .before .before .before .before .before .before .before .before .before .before .before .b .given .1,
-      ← c .before .before .before .before .before .before .before .before .before .before .before .before .before .before .before .field-at .ensures,
-      ← c .before .before .before .before .before .before .before .before .before .before .before .before .before .before .is-outside .ensures,
-      c .before .before .before .before .before .before .before .before .before .before .before .before .before .if1 .left,
-      ← c .before .before .before .before .before .before .before .before .before .before .before .before .field-at2 .ensures,
-      ← c .before .before .before .before .before .before .before .before .before .before .before .pos-wrong .ensures,
-      c .before .before .before .before .before .before .before .before .before .before .if2 .left,
-      ← c .before .before .before .before .before .before .before .before .before .field-at3 .ensures,
-      lt-leb _ _ (c .before .before .before .before .before .before .before .before .if3 .left),
-      ← c .before .before .before .before .before .before .before .field-at4 .ensures,
-      ne-eqb _ _ (c .before .before .before .before .before .before .if4 .left),
-      ← c .before .before .before .before .before .field-at5 .ensures, ← c .before .before .before .before .people-wrong .ensures,
-      c .before .before .before .if5 .left, ← c .before .before .field-at6 .ensures, ← c .before .qual-wrong .ensures, c .if6 .left),
-      rw (c .before .before .before .before .before .before .before .before .before .before .before .before .before .before .before .before .before .b .given .1) at (c .before .before .before .before .before .before .before .before .before .before .before .before .before .before .before .before .before .before .before .blocks-of .ensures .1))
+returns-8 c = (
+  simp (
+    ← c .before .before .before .before .before .before .before .before .before .before .before .before .before .before .before .before .before .before .before .blocks-of .ensures .0,
+    c .before .before .before .before .before .before .before .before .before .before .before .before .before .before .before .before .before .b .given .1,
+    ← c .before .before .before .before .before .before .before .before .before .before .before .before .before .before .before .field-at .ensures,
+    ← c .before .before .before .before .before .before .before .before .before .before .before .before .before .before .is-outside .ensures,
+    c .before .before .before .before .before .before .before .before .before .before .before .before .before .if1 .left,
+    ← c .before .before .before .before .before .before .before .before .before .before .before .before .field-at2 .ensures,
+    ← c .before .before .before .before .before .before .before .before .before .before .before .pos-wrong .ensures,
+    c .before .before .before .before .before .before .before .before .before .before .if2 .left,
+    ← c .before .before .before .before .before .before .before .before .before .field-at3 .ensures,
+    lt-leb _ _ (c .before .before .before .before .before .before .before .before .if3 .left),
+    ← c .before .before .before .before .before .before .before .field-at4 .ensures,
+    ne-eqb _ _ (c .before .before .before .before .before .before .if4 .left),
+    ← c .before .before .before .before .before .field-at5 .ensures,
+    ← c .before .before .before .before .people-wrong .ensures,
+    c .before .before .before .if5 .left,
+    ← c .before .before .field-at6 .ensures,
+    ← c .before .qual-wrong .ensures,
+    c .if6 .left,
+  ),
+  rw (c .before .before .before .before .before .before .before .before .before .before .before .before .before .before .before .before .before .b .given .1) at (c .before .before .before .before .before .before .before .before .before .before .before .before .before .before .before .before .before .before .before .blocks-of .ensures .1),
+)
 
 pub fixed-fields-spec : {M : Type 1} → statement M
 fixed-fields-spec =

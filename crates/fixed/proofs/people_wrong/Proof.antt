@@ -1,6 +1,6 @@
+-- `fixed::people_wrong` meets its contract.
 use borrow.Author.Tests.{eq-eqb, ne-eqb}
 use Rattle.fixed.specs.Layout.{peopleWrong}
--- `fixed::people_wrong` meets its contract.
 use Rattle.fixed.proofs.people_wrong.Statement.{statement}
 use Rattle.fixed.proofs.people_wrong.Tie as tie
 use Rattle.fixed.proofs.people_wrong.Reads as reads

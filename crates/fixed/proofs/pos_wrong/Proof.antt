@@ -1,6 +1,6 @@
+-- `fixed::pos_wrong` meets its contract.
 use borrow.Author.Tests.{le-leb, lt-leb}
 use Rattle.fixed.specs.Layout.{posWrong}
--- `fixed::pos_wrong` meets its contract.
 use Rattle.fixed.proofs.pos_wrong.Statement.{statement}
 use Rattle.fixed.proofs.pos_wrong.Tie as tie
 use Rattle.fixed.proofs.pos_wrong.Reads as reads

@@ -1,6 +1,6 @@
+-- `fixed::qual_wrong` meets its contract.
 use borrow.Author.Tests.{le-ltb, lt-ltb}
 use Rattle.fixed.specs.Layout.{qualWrong}
--- `fixed::qual_wrong` meets its contract.
 use Rattle.fixed.proofs.qual_wrong.Statement.{statement}
 use Rattle.fixed.proofs.qual_wrong.Tie as tie
 use Rattle.fixed.proofs.qual_wrong.Reads as reads

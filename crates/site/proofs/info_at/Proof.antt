@@ -1,9 +1,9 @@
+-- `site::info_at` meets its contract.
 use Rattle.site.specs.Site.{info}
 use lib.ListN.{length}
 use native.Mathlib.Omega.{arith}
 use Rattle.words.proofs.Places.{drop-on}
 use Rattle.site.proofs.Inside.{value-inside}
--- `site::info_at` meets its contract.
 use borrow.Author.Needs.{needs}
 use Rattle.site.proofs.info_at.Statement.{statement}
 use Rattle.site.proofs.info_at.Tie as tie

@@ -1,6 +1,6 @@
+-- `values::key_at` meets its contract.
 use Rattle.values.specs.Values.{keyed}
 use native.Mathlib.Omega.{arith}
--- `values::key_at` meets its contract.
 use borrow.Author.Needs.{needs}
 use Rattle.values.proofs.key_at.Statement.{statement}
 use Rattle.values.proofs.key_at.Tie as tie

@@ -1,6 +1,6 @@
+-- `vectors::code_most` meets its contract.
 use borrow.Author.Tests.{le-ltb, lt-ltb}
 use Rattle.vectors.specs.Sound.{codeMost}
--- `vectors::code_most` meets its contract.
 use borrow.Author.Needs.{needs}
 use Rattle.vectors.proofs.code_most.Statement.{statement}
 use Rattle.vectors.proofs.code_most.Tie as tie

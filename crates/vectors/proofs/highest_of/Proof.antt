@@ -1,6 +1,6 @@
+-- `vectors::highest_of` meets its contract.
 use borrow.Author.Tests.{eq-eqb, ne-eqb}
 use Rattle.vectors.specs.Sound.{highest}
--- `vectors::highest_of` meets its contract.
 use Rattle.vectors.proofs.highest_of.Statement.{statement}
 use Rattle.vectors.proofs.highest_of.Tie as tie
 use Rattle.vectors.proofs.highest_of.Reads as reads

@@ -1,8 +1,8 @@
+-- `vectors::sound_value_at` meets its contract.
 use Rattle.vectors.specs.Sound.{sound}
 use native.Mathlib.Omega.{arith}
 use lib.ListN.{length-take}
 use Rattle.words.proofs.Places.{drop-on}
--- `vectors::sound_value_at` meets its contract.
 use borrow.Author.Needs.{needs}
 use Rattle.vectors.proofs.sound_value_at.Statement.{statement}
 use Rattle.vectors.proofs.sound_value_at.Tie as tie

@@ -1,6 +1,6 @@
+-- `words::is_outside` meets its contract.
 use borrow.Author.Tests.{le-leb, lt-leb}
 use Rattle.words.specs.Words.{outside}
--- `words::is_outside` meets its contract.
 use Rattle.words.proofs.is_outside.Statement.{statement}
 use Rattle.words.proofs.is_outside.Tie as tie
 use Rattle.words.proofs.is_outside.Reads as reads

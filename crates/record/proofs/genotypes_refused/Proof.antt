@@ -1,0 +1,26 @@
+-- `record::genotypes_refused` meets its contract.
+use borrow.Author.Needs.{needs}
+use Rattle.record.proofs.genotypes_refused.Statement.{statement}
+use Rattle.record.proofs.genotypes_refused.Tie as tie
+use Rattle.record.proofs.genotypes_refused.Reads as reads
+use Rattle.record.proofs.genotypes_refused.Lts as lts
+
+-- src/lib.rt:51:32
+enum-told : tie.Need-enum-told
+enum-told c = search needs
+
+-- src/lib.rt:55:28
+enum-known-g : tie.Need-enum-known-g
+enum-known-g c = search needs
+
+-- src/lib.rt:47:1
+-- fill: 1f7f2c54
+returns : tie.Need-returns
+returns c = simp (c .enum-told .given .1)
+
+-- src/lib.rt:47:1
+returns-2 : tie.Need-returns-2
+returns-2 c = search needs
+
+pub genotypes-refused-spec : {M : Type 1} → statement M
+genotypes-refused-spec = tie.close (tie.spec enum-told enum-known-g returns returns-2)

@@ -1,0 +1,163 @@
+-- `record::read` meets its contract. Each part's answer, put into the definition in turn.
+use Rattle.record.specs.Reading.{genotypesOf, reading, siteOf}
+use mathlib.Core.Path.{sym}
+use native.Mathlib.Omega.{arith}
+use lib.Seq.{length-take-le}
+use borrow.Author.Needs.{needs}
+use Rattle.record.proofs.read.Statement.{statement}
+use Rattle.record.proofs.read.Tie as tie
+use Rattle.record.proofs.read.Reads as reads
+use Rattle.record.proofs.read.Lts as lts
+use Rattle.fixed.proofs.fixed_fields.Reads as fixed-fields-reads
+use Rattle.genotypes.proofs.genotype_block.Reads as genotype-block-reads
+use Rattle.record.proofs.fixed_refused.Reads as fixed-refused-reads
+use Rattle.record.proofs.genotypes_refused.Reads as genotypes-refused-reads
+use Rattle.record.proofs.site_refused.Reads as site-refused-reads
+use Rattle.site.proofs.site_block.Reads as site-block-reads
+
+-- src/lib.rt:64:9
+fixed-fields-requires : tie.Need-fixed-fields-requires
+fixed-fields-requires c κs = search needs
+
+-- src/lib.rt:65:21
+enum-known-f : tie.Need-enum-known-f
+enum-known-f c = search needs
+
+-- src/lib.rt:66:33
+enum-told : tie.Need-enum-told
+enum-told c = search needs
+
+-- src/lib.rt:66:33
+fixed-refused-requires : tie.Need-fixed-refused-requires
+fixed-refused-requires c κs = search needs
+
+-- src/lib.rt:66:9
+-- fill: 4915afe4
+returns : tie.Need-returns
+unfolding reading siteOf genotypesOf
+returns c =
+    (simp (← c .before .before .before .fixed-fields .ensures .0, c .before .enum-told .given .1, c .fixed-refused .ensures), search needs)
+
+-- src/lib.rt:70:19
+cast-alleles : tie.Need-cast-alleles
+cast-alleles c = search needs
+
+-- src/lib.rt:71:17
+cast-infos : tie.Need-cast-infos
+cast-infos c = search needs
+
+-- src/lib.rt:72:30
+slice-aggregate-site-block : tie.Need-slice-aggregate-site-block
+slice-aggregate-site-block c =
+    let i = rw (c .before .before .before .before .f .given .1) at (c .before .before .before .before .before .before .fixed-fields .ensures .1) in
+    sym (length-take-le _ _ (omega (arith, i)))
+
+-- src/lib.rt:72:9
+site-block-requires : tie.Need-site-block-requires
+site-block-requires c κs = search needs
+
+enum-told-2 : tie.Need-enum-told-2
+enum-told-2 c = search needs
+
+-- src/lib.rt:74:33
+enum-told-3 : tie.Need-enum-told-3
+enum-told-3 c = search needs
+
+-- src/lib.rt:74:33
+site-refused-requires : tie.Need-site-refused-requires
+site-refused-requires c κs = search needs
+
+-- src/lib.rt:74:9
+-- fill: 608bf447
+returns-2 : tie.Need-returns-2
+unfolding reading siteOf genotypesOf
+returns-2 c = (
+  simp (
+    ← c .before .before .before .before .before .before .before .before .before .before .fixed-fields .ensures .0,
+    c .before .before .before .before .before .before .before .before .f .given .1,
+    ← c .before .before .before .site-block .ensures,
+    c .before .enum-told3 .given .1,
+    c .site-refused .ensures,
+  ),
+  search needs,
+)
+
+-- src/lib.rt:76:39
+slice-aggregate-genotype-block : tie.Need-slice-aggregate-genotype-block
+slice-aggregate-genotype-block c =
+    let i = rw (c .before .before .before .before .before .before .before .before .f .given .1) at (c .before .before .before .before .before .before .before .before .before .before .fixed-fields .ensures .1) in
+    sym (length-take-le _ _ (i .2))
+
+-- src/lib.rt:76:9
+genotype-block-requires : tie.Need-genotype-block-requires
+genotype-block-requires c κs = search needs
+
+-- src/lib.rt:77:26
+enum-known-g : tie.Need-enum-known-g
+enum-known-g c = search needs
+
+-- src/lib.rt:78:33
+enum-told-4 : tie.Need-enum-told-4
+enum-told-4 c = search needs
+
+-- src/lib.rt:78:33
+genotypes-refused-requires : tie.Need-genotypes-refused-requires
+genotypes-refused-requires c κs = search needs
+
+-- src/lib.rt:78:9
+-- fill: 44edf61f
+returns-3 : tie.Need-returns-3
+unfolding reading siteOf genotypesOf
+returns-3 c = (
+  simp (
+    ← c .before .before .before .before .before .before .before .before .before .before .before .before .before .before .fixed-fields .ensures .0,
+    c .before .before .before .before .before .before .before .before .before .before .before .before .f .given .1,
+    ← c .before .before .before .before .before .before .before .site-block .ensures,
+    c .before .before .before .before .before .enum-told2 .given .1,
+    ← c .before .before .before .genotype-block .ensures,
+    c .before .enum-told4 .given .1,
+    c .genotypes-refused .ensures,
+  ),
+  search needs,
+)
+
+-- src/lib.rt:60:1
+-- fill: 5f6a5b03
+returns-4 : tie.Need-returns-4
+unfolding reading siteOf genotypesOf
+returns-4 c = (
+  simp (
+    ← c .before .before .before .before .before .before .before .before .before .before .before .before .before .before .fixed-fields .ensures .0,
+    c .before .before .before .before .before .before .before .before .before .before .before .before .f .given .1,
+    ← c .before .before .before .before .before .before .before .site-block .ensures,
+    c .before .before .before .before .before .enum-told2 .given .1,
+    ← c .before .before .before .genotype-block .ensures,
+    c .before .g .given .1,
+  ),
+  rw (c .before .before .before .before .before .before .before .before .before .before .before .before .f .given .1) at (c .before .before .before .before .before .before .before .before .before .before .before .before .before .before .fixed-fields .ensures .1),
+)
+
+pub read-spec : {M : Type 1} → statement M
+read-spec =
+    tie.close
+    (tie.spec
+    fixed-fields-requires
+    enum-known-f
+    enum-told
+    fixed-refused-requires
+    returns
+    cast-alleles
+    cast-infos
+    slice-aggregate-site-block
+    site-block-requires
+    enum-told-2
+    enum-told-3
+    site-refused-requires
+    returns-2
+    slice-aggregate-genotype-block
+    genotype-block-requires
+    enum-known-g
+    enum-told-4
+    genotypes-refused-requires
+    returns-3
+    returns-4)

@@ -1,0 +1,81 @@
+// Reading: one uncompressed BCF2 record at the start of a lent slice, judged in 01's order.
+// Rests on the front of a record (fixed), its site block (site) and its genotype block (genotypes).
+ghost use mathlib.Core.Path.{_≡_};
+ghost use lib.ListN.{length};
+ghost use Rattle.record.specs.Reading.{reading, fixedRefused, siteRefused, genotypesRefused, readingInside};
+use fixed::Facts;
+use fixed::Fixed;
+use fixed::Site;
+use genotypes::Genotypes;
+use genotypes::Gt;
+use site::Step;
+use values::Refusal;
+
+// A record that is accepted, with its site and where GT stands; or the refusal's number and place.
+pub enum Reading {
+    Accepted { site: Site, gt: Gt },
+    Refused(Refusal),
+}
+
+// The refusal of the front of a record.
+fn fixed_refused(f: Fixed) -> Refusal
+    ensures { λ r. ⌜ r ≡ fixedRefused f ⌝ }
+{
+    match f {
+        Fixed::Site(_) => Refusal {
+            number: 0,
+            place: 0,
+        },
+        Fixed::Refused(r) => r,
+    }
+}
+
+// The refusal of the site block.
+fn site_refused(p: Step) -> Refusal
+    ensures { λ r. ⌜ r ≡ siteRefused p ⌝ }
+{
+    match p {
+        Step::At(_) => Refusal {
+            number: 0,
+            place: 0,
+        },
+        Step::Refused(r) => r,
+    }
+}
+
+// The refusal of the genotype block.
+fn genotypes_refused(g: Genotypes) -> Refusal
+    ensures { λ r. ⌜ r ≡ genotypesRefused g ⌝ }
+{
+    match g {
+        Genotypes::Sound(_) => Refusal {
+            number: 0,
+            place: 0,
+        },
+        Genotypes::Refused(r) => r,
+    }
+}
+
+// The record at the start of a slice, under the header's facts. Bytes after it belong to the next one.
+pub fn read(s: &[u8], facts: Facts) -> Reading
+    ensures { λ r. ⌜ r ≡ reading facts (now (s .entry)) ⌝ }
+    ensures { λ r. ⌜ readingInside (length (now (s .entry))) r ⌝ }
+{
+    let f = fixed::fixed_fields(s, facts);
+    let Fixed::Site(site) = f else {
+        return Reading::Refused(fixed_refused(f));
+    };
+    let border = site.border;
+    let length = site.length;
+    let alleles = site.alleles as u32;
+    let infos = site.infos as u32;
+    let p = site::site_block(&s[..border], fixed::ID, facts.strings, alleles, infos);
+    let Step::At(_) = p else {
+        return Reading::Refused(site_refused(p));
+    };
+    let g = genotypes::genotype_block(&s[..length], border, facts, alleles, site.formats);
+    let Genotypes::Sound(gt) = g else {
+        return Reading::Refused(genotypes_refused(g));
+    };
+    Reading::Accepted { site, gt }
+}
