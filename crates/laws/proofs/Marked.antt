@@ -5,10 +5,11 @@ use Rattle.types.specs.Rows.{rowOf, widthOf}
 use Rattle.types.specs.Elements.{marked, kind, widened, shown, narrowest}
 use Rattle.values.specs.Values.{integer, trueLength, described, present}
 use Rattle.vectors.specs.Vectors.{numbers, vector, vectors, judged}
+use Rattle.vectors.specs.Sound.{highest, codeMost}
 use Rattle.laws.specs.Marked.{Marked}
 
 pub examples : Marked
-unfolding le number rowOf widthOf marked kind widened shown narrowest integer trueLength described present numbers vector vectors judged
+unfolding le number rowOf widthOf marked kind widened shown narrowest integer trueLength described present numbers vector vectors judged highest codeMost
 examples =
     record {
       m1 = λ rest. refl;
@@ -29,4 +30,7 @@ examples =
       m9-whole = λ last. refl;
       m9-accepted = refl;
       m9-refused = refl;
+      m10-sound = refl;
+      m10-high = refl;
+      m10-negative = refl;
     }

@@ -6,9 +6,10 @@ use lib.IntN.{pos, negsuc}
 use mir.Syntax.{w32}
 use mir.Val.{toZ, ofZ}
 use Rattle.types.specs.Elements.{shown, narrowest}
-use Rattle.types.specs.declared.Use.the-variants.{Id, Info}
+use Rattle.types.specs.declared.Use.the-variants.{Id, Info, Gt}
 use Rattle.values.specs.Answers.{typed, noDescriptor, whole}
 use Rattle.values.specs.Values.{described, present}
+use Rattle.vectors.specs.Sound.{mostOf}
 use Rattle.vectors.specs.Vectors.{judged, unsound}
 use Rattle.vectors.specs.declared.Judged.the-variants.{Sound}
 
@@ -45,3 +46,7 @@ pub record Marked : Type 0 where
   pub m9-whole : (last : ℕ) → present 1 Info 0 (0x31 ∷ 0x05 ∷ 0x81 ∷ last ∷ []) ≡ whole 1 3 1 4
   pub m9-accepted : judged any 1 3 (0x05 ∷ 0x81 ∷ 0x81 ∷ []) ≡ Sound
   pub m9-refused : judged any 1 3 (0x05 ∷ 0x81 ∷ 0x06 ∷ []) ≡ unsound 9 2
+  -- M10 two alleles, GT of type 1: `05` is sound; `06` and `FF` give 10
+  pub m10-sound : judged (mostOf Gt 2 1) 1 1 (0x05 ∷ []) ≡ Sound
+  pub m10-high : judged (mostOf Gt 2 1) 1 1 (0x06 ∷ []) ≡ unsound 10 0
+  pub m10-negative : judged (mostOf Gt 2 1) 1 1 (0xFF ∷ []) ≡ unsound 10 0

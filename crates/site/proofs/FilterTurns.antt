@@ -13,9 +13,9 @@ use Rattle.words.specs.Lists.{among}
 use Rattle.words.specs.Pick.{pick}
 use Rattle.words.specs.Words.{number, outside}
 use Rattle.types.specs.Elements.{shown}
-use Rattle.vectors.specs.Vectors.{unsound}
+use Rattle.vectors.specs.Vectors.{shownNumbers, unsound}
 use Rattle.vectors.specs.declared.Judged.{Judged}
-use Rattle.site.specs.Filters.{offsets, before, filters}
+use Rattle.site.specs.Filters.{before, filters}
 
 -- one element fewer
 pub one-fewer : (n w : ℕ) → 0 < n → n * w ≡ (n - 1) * w + w
@@ -38,10 +38,10 @@ before-more s t w n at e = rw (add-one n, e)
 
 -- an element, where some are left
 pub filters-turn : (s : List ℕ) (strings t w n at : ℕ) (earlier : List ℕ) → 0 < n
-    → filters strings w at earlier (offsets t w n (drop at s))
+    → filters strings w at earlier (shownNumbers t w n (drop at s))
     ≡ pick (outside strings (shown t (number w (drop at s)))) (unsound 8 at)
     (pick (among (shown t (number w (drop at s))) earlier) (unsound 11 at)
-    (filters strings w (at + w) (shown t (number w (drop at s)) ∷ earlier) (offsets t w (n - 1) (drop (at + w) s))))
-unfolding filters offsets
+    (filters strings w (at + w) (shown t (number w (drop at s)) ∷ earlier) (shownNumbers t w (n - 1) (drop (at + w) s))))
+unfolding filters shownNumbers
 filters-turn s strings t w zero at earlier h = absurd (omega arith)
 filters-turn s strings t w (suc n) at earlier h = rw (sub-one, drop-drop w at s)

@@ -1,4 +1,4 @@
--- FILTER: integers, each an offset below the dictionary's size, none twice; marks are no offsets. Rests on values.
+-- FILTER: integers, each an offset below the dictionary's size, none twice; marks are no shownNumbers. Rests on values.
 use Prim.Native.Nat.{ℕ, zero, suc, _+_, _-_, _*_, _/_}
 use mathlib.Core.List.{List, [], _∷_}
 use lib.ListN.{length, take, drop}
@@ -11,17 +11,12 @@ use Rattle.types.specs.declared.Use.the-variants.{Filter}
 use Rattle.values.specs.Values.{present}
 use Rattle.values.specs.declared.Value.{Value}
 use Rattle.values.specs.declared.Value.the-variants.{Present, Refused as NoValue}
-use Rattle.vectors.specs.Vectors.{unsound}
+use Rattle.vectors.specs.Vectors.{shownNumbers, unsound}
 use Rattle.vectors.specs.declared.Judged.{Judged}
 use Rattle.vectors.specs.declared.Judged.the-variants.{Sound}
 use Rattle.site.specs.Steps.{judgedStep}
 use Rattle.site.specs.declared.Step.{Step}
 use Rattle.site.specs.declared.Step.the-variants.{Refused}
-
--- the first n elements of type t and width w, as they are shown
-unfoldable pub offsets : ℕ → ℕ → ℕ → List ℕ → List ℕ
-offsets t w zero l = []
-offsets t w (suc n) l = shown t (number w l) ∷ offsets t w n (drop w l)
 
 -- the first n elements, the last of them first
 unfoldable pub before : ℕ → ℕ → ℕ → List ℕ → List ℕ
@@ -37,7 +32,7 @@ filters strings w at earlier (x ∷ xs) =
 
 -- the elements of a part; places count from its start
 unfoldable pub filtered : ℕ → ℕ → List ℕ → Judged
-filtered strings t l = filters strings (widthOf t) 0 [] (offsets t (widthOf t) (length l / widthOf t) l)
+filtered strings t l = filters strings (widthOf t) 0 [] (shownNumbers t (widthOf t) (length l / widthOf t) l)
 
 abbrev pub filterValue : ℕ → ℕ → List ℕ → Value → Step
 filterValue strings at l (NoValue r) = Refused r

@@ -7,7 +7,7 @@ use lib.ListN.{length, drop}
 use Rattle.words.specs.Pick.{pick}
 use Rattle.words.specs.Words.{number}
 use Rattle.types.specs.Rows.{widthOf}
-use Rattle.types.specs.Elements.{kind}
+use Rattle.types.specs.Elements.{kind, shown}
 use Rattle.types.specs.declared.Element.{Element}
 use Rattle.types.specs.declared.Element.the-variants.{Plain, Missing, End, Reserved}
 use Rattle.values.specs.Answers.{refusal}
@@ -29,6 +29,11 @@ judgedInside end Sound = Unit {0}
 unfoldable pub numbers : ℕ → ℕ → List ℕ → List ℕ
 numbers w zero l = []
 numbers w (suc n) l = number w l ∷ numbers w n (drop w l)
+
+-- the same, as they are shown
+unfoldable pub shownNumbers : ℕ → ℕ → ℕ → List ℕ → List ℕ
+shownNumbers t w zero l = []
+shownNumbers t w (suc n) l = shown t (number w l) ∷ shownNumbers t w n (drop w l)
 
 -- an element whose number is x, after an end of vector or not: refused, 9 where it is reserved or stands after an end of vector,
 -- 10 where it is plain and above the most that the vector may hold; else on, with whether the vector has ended

@@ -8,7 +8,8 @@ use lib.ListN.{drop, length}
 use Rattle.words.proofs.Words.{number-at}
 use Rattle.types.specs.Elements.{shown}
 use Rattle.values.proofs.Room.{room}
-use Rattle.site.specs.Filters.{filtered, filters, before, offsets}
+use Rattle.vectors.specs.Vectors.{shownNumbers}
+use Rattle.site.specs.Filters.{filtered, filters, before}
 use Rattle.site.proofs.FilterTurns.{filters-turn, before-more}
 use borrow.Author.Needs.{needs}
 use Rattle.site.proofs.judge_filters.Statement.{statement}
@@ -24,7 +25,7 @@ use Rattle.words.proofs.word.Reads as word-reads
 
 abbrev Inv-loop : tie.InvT-loop
 Inv-loop part code strings w left₀ count₀ at₀ left count at =
-    (filtered strings code part ≡ filters strings w at (before code w count part) (offsets code w left (drop at part))) × (at ≡ count * w) × (at + left * w ≤ length part) × (count + left ≡ left₀)
+    (filtered strings code part ≡ filters strings w at (before code w count part) (shownNumbers code w left (drop at part))) × (at ≡ count * w) × (at + left * w ≤ length part) × (count + left ≡ left₀)
 
 abbrev μ-loop : tie.MeasureT-loop
 μ-loop part code strings w left₀ count₀ at₀ left count at = left
@@ -134,7 +135,7 @@ loop-again c =
 
 -- src/lib.rt:140:1
 returns-3 : tie.Need-returns-3 Inv-loop μ-loop
-unfolding filters offsets
+unfolding filters shownNumbers
 returns-3 c =
     let l = c .before .loop in
     let z : l .left ≡ 0 = omega arith in

@@ -1,0 +1,52 @@
+-- 01's sample record, the input of the line program's example: how it is read, and what it shows. Rests on record's definitions.
+use mathlib.Core.Path.{_≡_}
+use mathlib.Core.List.{List, [], _∷_}
+use Prim.Native.Nat.{ℕ}
+use Rattle.fixed.specs.declared.Facts.{Facts}
+use Rattle.fixed.specs.declared.Site.{Site}
+use Rattle.genotypes.specs.Formats.{gtAt}
+use Rattle.record.specs.Reading.{reading}
+use Rattle.record.specs.Shown.{Shown, shownOf, integers}
+use Rattle.record.specs.declared.Reading.the-variants.{Accepted}
+
+-- four strings, one contig, two people, GT at offset 3
+abbrev pub facts : Facts
+facts = record { strings = 4; contigs = 1; people = 2; gt = 3 }
+
+unfoldable pub sample : List ℕ
+sample =
+    0x23 ∷ 0 ∷ 0 ∷ 0 ∷ 0x07 ∷ 0 ∷ 0 ∷ 0 ∷ 0 ∷ 0 ∷ 0 ∷ 0 ∷ 0x21 ∷ 0x38 ∷ 0 ∷ 0 ∷ 0x01 ∷ 0 ∷ 0 ∷ 0 ∷ 0x01 ∷ 0 ∷ 0x02 ∷ 0 ∷ 0x02 ∷ 0 ∷
+    0 ∷ 0x01 ∷ 0 ∷ 0 ∷ 0xE8 ∷ 0x41 ∷ 0x07 ∷ 0x17 ∷ 0x47 ∷ 0x17 ∷ 0x41 ∷ 0x11 ∷ 0 ∷ 0x11 ∷ 0x02 ∷ 0x11 ∷ 0x0E ∷ 0x11 ∷ 0x03 ∷ 0x21 ∷
+    0x02 ∷ 0x03 ∷ 0x04 ∷ 0x81 ∷ []
+
+abbrev pub sampleSite : Site
+sampleSite =
+    record {
+      length = 50;
+      border = 43;
+      chrom = 0;
+      pos = 0x3821;
+      rlen = 1;
+      qual = 0x41E80000;
+      alleles = 2;
+      infos = 1;
+      formats = 1;
+      people = 2;
+    }
+
+pub record Sample : Type 0 where
+  -- accepted: 50 bytes, two alleles, one INFO pair, one FORMAT field, two people; GT is of type 1, two slots a person, from byte 46 on
+  pub read : reading facts sample ≡ Accepted sampleSite (gtAt 1 2 46)
+  -- no ID, alleles G and A, the filter at offset 0, INFO 2 is 14, and GT is 02 03 and 04 with an end of vector
+  pub shows : shownOf sampleSite sample
+      ≡ record {
+        chrom = 0;
+        pos = 0x3821;
+        rlen = 1;
+        qual = 0x41E80000;
+        id = [];
+        alleles = (0x47 ∷ []) ∷ (0x41 ∷ []) ∷ [];
+        filters = 0 ∷ [];
+        infos = record { key = 2; value = record { kind = integers; elements = 14 ∷ [] } } ∷ [];
+        formats = record { key = 3; len = 2; value = record { kind = integers; elements = 2 ∷ 3 ∷ 4 ∷ 0x80000001 ∷ [] } } ∷ [];
+      }
