@@ -58,6 +58,11 @@ afterFixed f s (Front t) = afterSite f t s (siteOf f t s)
 unfoldable pub reading : Facts → List ℕ → Reading
 reading f s = afterFixed f s (fixed f s)
 
+-- the refusal in a reading
+abbrev pub readingRefusal : Reading → Refusal
+readingRefusal (Refused r) = r
+readingRefusal (Accepted t g) = refusal 0 0
+
 -- an accepted record lies in the slice
 abbrev pub readingInside : ℕ → Reading → Type 0
 readingInside end (Refused r) = Unit {0}

@@ -2,7 +2,7 @@
 // Rests on the front of a record (fixed), its site block (site) and its genotype block (genotypes).
 ghost use mathlib.Core.Path.{_≡_};
 ghost use lib.ListN.{length};
-ghost use Rattle.record.specs.Reading.{reading, fixedRefused, siteRefused, genotypesRefused, readingInside};
+ghost use Rattle.record.specs.Reading.{reading, fixedRefused, siteRefused, genotypesRefused, readingRefusal, readingInside};
 use fixed::Facts;
 use fixed::Fixed;
 use fixed::Site;
@@ -78,4 +78,17 @@ pub fn read(s: &[u8], facts: Facts) -> Reading
         return Reading::Refused(genotypes_refused(g));
     };
     Reading::Accepted { site, gt }
+}
+
+// The refusal of a reading; number 0 where there is none.
+pub fn reading_refusal(r: Reading) -> Refusal
+    ensures { λ q. ⌜ q ≡ readingRefusal r ⌝ }
+{
+    match r {
+        Reading::Accepted { site: _, gt: _ } => Refusal {
+            number: 0,
+            place: 0,
+        },
+        Reading::Refused(q) => q,
+    }
 }

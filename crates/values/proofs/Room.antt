@@ -30,6 +30,10 @@ fits-over first n w end p h = by-test (leb n ((end - first) / w)) refl
             let z : (end - first) / w < n = leb-false _ _ e in
             absurd (omega arith)
 
+-- nothing fits before its start
+pub fits-before : (first n w end : ℕ) → end < first → false ≡ leb (first + n * w) end
+fits-before first n w end h = let q : end < first + n * w = omega arith in rw (lt-leb (first + n * w) end q)
+
 -- elements of no width fit wherever they stand
 pub fits-none : (first n w end : ℕ) → w ≡ 0 → first ≤ end → true ≡ leb (first + n * w) end
 fits-none first n w end z h = let q : first + n * w ≤ end = rw (z, mul-zero) (omega arith) in rw (le-leb (first + n * w) end q)

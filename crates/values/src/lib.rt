@@ -189,10 +189,12 @@ pub fn descriptor_at(block: &[u8], at: usize, role: Use) -> Descriptor
 }
 
 // Whether `count` elements of `w` bytes fit between two places. Divided, so that no product passes 64 bits.
-fn has_room(first: usize, count: usize, w: usize, end: usize) -> bool
-    requires { ⌜ first ≤ end ⌝ }
+pub fn has_room(first: usize, count: usize, w: usize, end: usize) -> bool
     ensures { λ r. ⌜ r ≡ leb (first + count * w) end ⌝ }
 {
+    if end < first {
+        return false;
+    }
     if w == 0 {
         return true;
     }

@@ -1,4 +1,5 @@
 pub mod Places
 pub mod Rules
 pub mod Sign
+pub mod Stores
 pub mod Words

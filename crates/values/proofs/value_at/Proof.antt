@@ -62,7 +62,7 @@ cast-w c = search needs
 
 -- src/lib.rt:183:8
 has-room-requires : tie.Need-has-room-requires
-has-room-requires c κs = rw (c .before .before .before .d .given .1) at (c .before .before .before .before .before .descriptor-at .ensures .1) .1
+has-room-requires c κs = tt
 
 -- src/lib.rt:184:65
 mul-t17 : tie.Need-mul-t17

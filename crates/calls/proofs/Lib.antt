@@ -1,0 +1,6 @@
+pub mod Counters
+pub mod Examples
+pub mod Laws
+pub mod Pairs
+pub mod Sound
+pub mod Turns

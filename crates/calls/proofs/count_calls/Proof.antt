@@ -1,0 +1,146 @@
+-- `calls::count_calls` meets its contract. The loop's invariant: the part's tally is the one under way and the people that are left, who have room;
+-- no pair of counters is above the place; and where anyone is left, elements have a width.
+use mathlib.Core.Path.{_≡_, refl, _∙_}
+use Prim.Native.Nat.{_+_, _*_, _<_, _≤_, _^_}
+use native.Mathlib.Nat.{add-zero}
+use native.Mathlib.Omega.{arith}
+use lib.ListN.{drop, length}
+use Rattle.values.proofs.Room.{room}
+use Rattle.vectors.proofs.Turns.{vectors-fit}
+use Rattle.calls.specs.Calls as spec
+use Rattle.calls.specs.Sweep.{folded}
+use Rattle.calls.proofs.Counters.{raised-none, wider, zeros}
+use Rattle.calls.proofs.Turns.{onward, onward-start, onward-turn, some-width}
+use borrow.Author.Needs.{needs}
+use Rattle.calls.proofs.count_calls.Statement.{statement}
+use Rattle.calls.proofs.count_calls.Tie as tie
+use Rattle.calls.proofs.count_calls.Reads as reads
+use Rattle.calls.proofs.count_calls.Lts as lts
+use Rattle.calls.proofs.count_person.Reads as count-person-reads
+use Rattle.calls.proofs.sum_pairs.Reads as sum-pairs-reads
+use Rattle.types.proofs.row_of.Reads as row-of-reads
+use Rattle.words.proofs.over.Reads as over-reads
+
+abbrev Inv-loop : tie.InvT-loop
+Inv-loop part code len w left₀ at₀ without₀ pairs₀ left at without pairs =
+    (spec.counted code len part ≡ onward without (folded pairs) code (spec.people w len left (drop at part)))
+    × (at + left * (len * w) ≤ length part)
+    × spec.AtMost at (folded pairs)
+    × (length pairs ≡ 130)
+    × (without + left < 2 ^ 64)
+    × (0 < left → 0 < w)
+
+abbrev μ-loop : tie.MeasureT-loop
+μ-loop part code len w left₀ at₀ without₀ pairs₀ left at without pairs = left
+
+-- src/lib.rt:94:9
+row-of-requires : tie.Need-row-of-requires Inv-loop μ-loop
+row-of-requires c κs = search needs
+
+-- src/lib.rt:96:56
+cast-over : tie.Need-cast-over Inv-loop μ-loop
+cast-over c = search needs
+
+-- src/lib.rt:96:32
+over-requires : tie.Need-over-requires Inv-loop μ-loop
+over-requires c κs = search needs
+
+-- src/lib.rt:96:9
+over-requires-2 : tie.Need-over-requires-2 Inv-loop μ-loop
+over-requires-2 c κs = search needs
+
+-- src/lib.rt:100:5
+loop-holds : tie.Need-loop-holds Inv-loop μ-loop
+unfolding spec.counted spec.peopleOf folded
+loop-holds c =
+    let w = c .before .before .row-of .ensures .1 .0 in
+    let n = c .before .over .ensures .0 in
+    let p = c .over2 .ensures .0 in (
+      onward-start _ _ ∙ simp (← w, ← n, ← p),
+      vectors-fit _ _ _ _ _ (c .over2 .ensures .1) (c .before .over .ensures .1),
+      zeros 65 _,
+      refl,
+      search needs,
+      λ h. some-width _ _ _ (rw (p, n) at h),
+    )
+
+-- src/lib.rt:101:20
+count-person-requires : tie.Need-count-person-requires Inv-loop μ-loop
+count-person-requires c κs =
+    let l = c .before .before .loop in
+    let h = c .before .loop-test .taken in
+    let w = c .before .before .before .before .before .row-of .ensures .1 in
+    ((omega (arith, room _ _ _ _ h (l .inv .1)), l .inv .5 h, w .1, w .2), (l .inv .3, l .inv .2))
+
+-- src/lib.rt:101:9
+add-without : tie.Need-add-without Inv-loop μ-loop
+add-without c = let b = c .count-person .ensures .1 .1 .0 in omega arith
+
+-- src/lib.rt:102:21
+cast-at : tie.Need-cast-at Inv-loop μ-loop
+cast-at c = search needs
+
+-- src/lib.rt:102:15
+mul-at : tie.Need-mul-at Inv-loop μ-loop
+mul-at c = omega (arith, room _ _ _ _ (c .before .before .loop-test .taken) (c .before .before .before .loop .inv .1))
+
+-- src/lib.rt:102:9
+add-at : tie.Need-add-at Inv-loop μ-loop
+add-at c = omega (arith, room _ _ _ _ (c .before .before .loop-test .taken) (c .before .before .before .loop .inv .1))
+
+-- src/lib.rt:103:9
+sub-left : tie.Need-sub-left Inv-loop μ-loop
+sub-left c = search needs
+
+-- src/lib.rt:100:5
+loop-less : tie.Need-loop-less Inv-loop μ-loop
+loop-less c = search needs
+
+-- src/lib.rt:100:5
+loop-again : tie.Need-loop-again Inv-loop μ-loop
+loop-again c =
+    let l = c .before .before .before .loop in
+    let h = c .before .before .loop-test .taken in
+    let r = c .count-person .ensures in
+    let b = r .1 .1 .0 in (
+      l .inv .0 ∙ rw (onward-turn _ _ _ _ _ _ _ _ h, ← r .0, ← r .1 .0),
+      room _ _ _ _ h (l .inv .1),
+      r .1 .1 .2,
+      r .1 .1 .1,
+      omega arith,
+      λ _. l .inv .5 h,
+    )
+
+-- src/lib.rt:107:17
+sum-pairs-requires : tie.Need-sum-pairs-requires Inv-loop μ-loop
+sum-pairs-requires c κs = let l = c .before .before .loop in (l .inv .3, wider _ _ (folded (l .pairs)) (omega arith) (l .inv .2))
+
+-- src/lib.rt:91:1
+returns : tie.Need-returns Inv-loop μ-loop
+unfolding spec.people spec.called spec.without
+returns c =
+    let l = c .before .before .before .loop in
+    let z : l .left ≡ 0 = omega arith in
+    rw (l .inv .0, z, add-zero, raised-none, c .sum-pairs .ensures)
+
+pub count-calls-spec : {M : Type 1} → statement M
+count-calls-spec =
+    tie.close
+    (tie.spec
+    Inv-loop
+    μ-loop
+    row-of-requires
+    cast-over
+    over-requires
+    over-requires-2
+    loop-holds
+    count-person-requires
+    add-without
+    cast-at
+    mul-at
+    add-at
+    sub-left
+    loop-less
+    loop-again
+    sum-pairs-requires
+    returns)

@@ -1,0 +1,150 @@
+// What the line program says of one line: the answer's whole text, into a lent buffer.
+// Rests on hexadecimal and decimal for the text, and on record and tally for what is said.
+ghost use mathlib.Core.List.{[], _∷_, _++_};
+ghost use mathlib.Core.Path.{_≡_};
+ghost use Prim.Native.Nat.{_+_, _*_, _≤_};
+ghost use lib.ListN.{length};
+ghost use lib.Seq.{sets};
+ghost use Rattle.frames.specs.Text.{spaced, line, badLine, noLine};
+ghost use Rattle.frames.specs.Frames.{acceptedLine, recordLine, answer, answered, textInside, decoded};
+use decimal::Put;
+use fixed::Facts;
+use fixed::Site;
+use genotypes::Gt;
+use hexadecimal::Frame;
+use record::Reading;
+use values::Refusal;
+
+// The answer to a line: so many bytes of text; or a buffer is too short for any answer.
+pub enum Answer {
+    Text(usize),
+    NoRoom,
+}
+
+// Puts each number after a space, from a place on, and answers the place after them.
+fn put_numbers(out: &mut [u8], from: usize, numbers: &[u64]) -> usize
+    requires { ⌜ from + length (now numbers) * 21 ≤ length (now out) ⌝ }
+    ensures { λ r. ⌜ r ≡ from + length (spaced (now (numbers .entry))) ⌝ }
+    ensures { λ r. ⌜ r ≤ from + length (now (numbers .entry)) * 21 ⌝ }
+    ensures { λ _. ⌜ now (out .exit) ≡ sets (now (out .entry)) from (spaced (now (numbers .entry))) ⌝ }
+{
+    let mut at = from;
+    let mut i = 0;
+    while i < numbers.len() {
+        out[at] = b' ';
+        let p = decimal::put_decimal(out, at + 1, numbers[i]);
+        let Put::At(next) = p else {
+            return at;
+        };
+        at = next;
+        i += 1;
+    }
+    at
+}
+
+// Puts a whole line at the buffer's start: a word of two letters, two runs of numbers, a line feed. Answers its length.
+fn put_line(out: &mut [u8], a: u8, b: u8, head: &[u64], more: &[u64]) -> usize
+    requires { ⌜ (length (now head) + length (now more) ≤ 71) × (2048 ≤ length (now out)) ⌝ }
+    ensures { λ r. ⌜ r ≡ length (line a b (now (head .entry) ++ now (more .entry))) ⌝ }
+    ensures { λ r. ⌜ r ≤ 2048 ⌝ }
+    ensures { λ _. ⌜ now (out .exit) ≡ sets (now (out .entry)) 0 (line a b (now (head .entry) ++ now (more .entry))) ⌝ }
+{
+    out[0] = a;
+    out[1] = b;
+    let middle = put_numbers(out, 2, head);
+    let last = put_numbers(out, middle, more);
+    out[last] = b'\n';
+    last + 1
+}
+
+// Puts `bad` at the buffer's start.
+fn put_bad(out: &mut [u8]) -> usize
+    requires { ⌜ 2048 ≤ length (now out) ⌝ }
+    ensures { λ r. ⌜ (r ≡ 4) × (now (out .exit) ≡ sets (now (out .entry)) 0 badLine) ⌝ }
+{
+    out[0] = b'b';
+    out[1] = b'a';
+    out[2] = b'd';
+    out[3] = b'\n';
+    4
+}
+
+// Puts `no` with a refusal's number and place.
+fn put_refusal(out: &mut [u8], r: Refusal) -> usize
+    requires { ⌜ 2048 ≤ length (now out) ⌝ }
+    ensures { λ n. ⌜ n ≡ length (noLine (r .number ∷ r .place ∷ [])) ⌝ }
+    ensures { λ n. ⌜ n ≤ 2048 ⌝ }
+    ensures { λ _. ⌜ now (out .exit) ≡ sets (now (out .entry)) 0 (noLine (r .number ∷ r .place ∷ [])) ⌝ }
+{
+    let numbers = [r.number as u64, r.place as u64];
+    let none = [0u64; 1];
+    put_line(out, b'n', b'o', &numbers, &none[..0])
+}
+
+// Puts `ok` with what is said of an accepted record.
+fn put_accepted(out: &mut [u8], bytes: &[u8], site: Site, gt: Gt) -> usize
+    requires { ⌜ 2048 ≤ length (now out) ⌝ }
+    ensures { λ n. ⌜ n ≡ length (acceptedLine site gt (now (bytes .entry))) ⌝ }
+    ensures { λ n. ⌜ n ≤ 2048 ⌝ }
+    ensures { λ _. ⌜ now (out .exit) ≡ sets (now (out .entry)) 0 (acceptedLine site gt (now (bytes .entry))) ⌝ }
+{
+    let alleles = site.alleles;
+    if 64 < alleles {
+        let numbers = [
+            site.length as u64,
+            alleles as u64,
+            site.infos as u64,
+            site.formats as u64,
+            site.people as u64,
+        ];
+        let none = [0u64; 1];
+        return put_line(out, b'o', b'k', &numbers, &none[..0]);
+    }
+    let calls = tally::calls_of(bytes, gt, site.people);
+    let counts = calls.counts;
+    let numbers = [
+        site.length as u64,
+        alleles as u64,
+        site.infos as u64,
+        site.formats as u64,
+        site.people as u64,
+        calls.without,
+    ];
+    let n = alleles as usize + 1;
+    put_line(out, b'o', b'k', &numbers, &counts[..n])
+}
+
+// Puts the answer to a record's bytes at the buffer's start.
+fn put_record(out: &mut [u8], bytes: &[u8], facts: Facts) -> usize
+    requires { ⌜ 2048 ≤ length (now out) ⌝ }
+    ensures { λ n. ⌜ n ≡ length (recordLine facts (now (bytes .entry))) ⌝ }
+    ensures { λ n. ⌜ n ≤ 2048 ⌝ }
+    ensures { λ _. ⌜ now (out .exit) ≡ sets (now (out .entry)) 0 (recordLine facts (now (bytes .entry))) ⌝ }
+{
+    let r = record::read(bytes, facts);
+    let Reading::Accepted { site, gt } = r else {
+        return put_refusal(out, record::reading_refusal(r));
+    };
+    if site.length < bytes.len() {
+        return put_bad(out);
+    }
+    put_accepted(out, bytes, site, gt)
+}
+
+// The answer to a record's line, the whole text, at the start of `out`; the record's bytes go into `frame`.
+pub fn answer_line(line: &[u8], facts: Facts, frame: &mut [u8], out: &mut [u8]) -> Answer
+    ensures told { λ r. ⌜ r ≡ answer (length (now (frame .entry))) (length (now (out .entry))) facts (now (line .entry)) ⌝ }
+    ensures inside { λ r. ⌜ textInside (length (now (out .entry))) r ⌝ }
+    ensures written { λ _. ⌜ now (out .exit) ≡ answered (length (now (frame .entry))) (now (out .entry)) facts (now (line .entry)) ⌝ }
+    ensures decoded { λ _. ⌜ now (frame .exit) ≡ decoded (now (frame .entry)) (length (now (out .entry))) (now (line .entry)) ⌝ }
+{
+    if out.len() < 2048 {
+        return Answer::NoRoom;
+    }
+    let f = hexadecimal::decode(line, frame);
+    match f {
+        Frame::Bytes(n) => Answer::Text(put_record(out, &frame[..n], facts)),
+        Frame::Bad => Answer::Text(put_bad(out)),
+        Frame::NoRoom => Answer::NoRoom,
+    }
+}

@@ -1,0 +1,80 @@
+-- Lines of hexadecimal digits, as lists of character codes: the first line's facts, and the bytes of a record's line.
+-- Rests on nothing but the choice by a test.
+use Prim.Native.Nat.{ℕ, zero, suc, _+_, _-_, _*_, _%_, _^_, _≤_}
+use mathlib.Core.List.{List, [], _∷_}
+use mathlib.Core.Bool.{Bool, true, false}
+use mathlib.Core.Option.{Option, none, some}
+use lib.Dec.{leb, ltb, eqb}
+use lib.ListN.{length, take, drop}
+use lib.Seq.{sets}
+use Rattle.words.specs.Pick.{pick}
+use Rattle.hexadecimal.specs.declared.FactsLine.{FactsLine}
+use Rattle.hexadecimal.specs.declared.FactsLine.the-variants.{Facts, NoFacts}
+use Rattle.hexadecimal.specs.declared.Frame.{Frame}
+use Rattle.hexadecimal.specs.declared.Frame.the-variants.{Bytes, Bad, NoRoom}
+
+-- a character is one of those from a first to a last
+abbrev pub among : ℕ → ℕ → ℕ → Bool
+among first last c = pick (leb first c) (leb c last) false
+
+-- the value of a character as a digit: 0 to 9, A to F or a to f; 16 for any other character
+unfoldable pub digit : ℕ → ℕ
+digit c =
+    pick (among 0x30 0x39 c) (c - 0x30)
+    (pick (among 0x41 0x46 c) (c - 0x41 + 10)
+    (pick (among 0x61 0x66 c) (c - 0x61 + 10)
+    16))
+
+-- the values of n characters, from c on
+unfoldable pub valuesFrom : ℕ → ℕ → List ℕ
+valuesFrom c zero = []
+valuesFrom c (suc n) = digit c ∷ valuesFrom (suc c) n
+
+-- each character is a digit
+unfoldable pub digits : List ℕ → Bool
+digits [] = true
+digits (c ∷ cs) = pick (leb 16 (digit c)) false (digits cs)
+
+-- the byte of two digits, the high one first
+unfoldable pub byte : ℕ → ℕ → ℕ
+byte h l = digit h * 16 + digit l
+
+-- the bytes of a line of digits, two digits a byte; an odd last digit is no byte
+unfoldable pub paired : List ℕ → List ℕ
+paired [] = []
+paired (h ∷ []) = []
+paired (h ∷ l ∷ rest) = byte h l ∷ paired rest
+
+-- the number of a list of digits, high digit first
+unfoldable pub big : List ℕ → ℕ
+big [] = 0
+big (c ∷ cs) = digit c * 16 ^ length cs + big cs
+
+-- the first line is 32 digits: strings, contigs, people and GT offset, eight digits each
+unfoldable pub factsOf : List ℕ → FactsLine
+factsOf l =
+    pick (eqb (length l) 32)
+    (pick (digits l)
+    (Facts (big (take 8 l)) (big (take 8 (drop 8 l))) (big (take 8 (drop 16 l))) (big (take 8 (drop 24 l))))
+    NoFacts)
+    NoFacts
+
+-- a record's line: none where it is bad, being over 60,000 digits, of odd length, or with another character; else its bytes
+unfoldable pub frameOf : List ℕ → Option (List ℕ)
+frameOf l = pick (ltb 60000 (length l)) none (pick (eqb (length l % 2) 1) none (pick (digits l) (some (paired l)) none))
+
+-- what is answered to a line, where there is room for so many bytes
+abbrev pub answered : ℕ → Option (List ℕ) → Frame
+answered room none = Bad
+answered room (some bs) = pick (ltb room (length bs)) NoRoom (Bytes (length bs))
+
+-- the bytes that were stored lie in a buffer of so many
+abbrev pub bytesInside : ℕ → Frame → Type 0
+bytesInside room (Bytes n) = n ≤ room
+bytesInside room Bad = Unit {0}
+bytesInside room NoRoom = Unit {0}
+
+-- the buffer after a line: its bytes from the start on, where they have room
+abbrev pub stored : List ℕ → Option (List ℕ) → List ℕ
+stored buf none = buf
+stored buf (some bs) = pick (ltb (length buf) (length bs)) buf (sets buf 0 bs)

@@ -1,0 +1,135 @@
+// Lines of hexadecimal digits: the facts of the first line, and the bytes of a record's line.
+// Rests on words, for the way in which definitions choose.
+ghost use mathlib.Core.Path.{_≡_};
+ghost use mathlib.Core.Bool.{true};
+ghost use Prim.Native.Nat.{_+_, _*_, _<_, _≤_};
+ghost use lib.ListN.{drop, getD, length, take};
+ghost use lib.Seq.{sets};
+ghost use Rattle.hexadecimal.specs.Hexadecimal.{digit, valuesFrom, digits, byte, paired, big, factsOf, frameOf, answered, bytesInside, stored};
+
+mod characters; // the value of each character as a digit
+
+// The first line: its four numbers, or none where it is not 32 digits.
+pub enum FactsLine {
+    Facts {
+        strings: u32,
+        contigs: u32,
+        people: u32,
+        gt: u32,
+    },
+    NoFacts,
+}
+
+// A record's line: so many bytes stored, a bad line, or a buffer that is too short.
+pub enum Frame {
+    Bytes(usize),
+    Bad,
+    NoRoom,
+}
+
+// A byte as a 32-bit number: with it a number of four bytes asks for no bound of its own.
+fn wide(x: u8) -> u32
+    ensures { λ r. ⌜ (r ≡ x) × (r < 256) ⌝ }
+{
+    x as u32
+}
+
+// The value of a character as a digit. The table is lent, since each look at the constant would build it anew.
+fn digit_of(table: &[u8; 256], c: u8) -> u8
+    requires { ⌜ now table ≡ valuesFrom 0 256 ⌝ }
+    ensures { λ r. ⌜ r ≡ digit c ⌝ }
+{
+    table[c as usize]
+}
+
+// Whether each character of a line is a digit.
+fn all_digits(table: &[u8; 256], line: &[u8]) -> bool
+    requires { ⌜ now table ≡ valuesFrom 0 256 ⌝ }
+    ensures { λ r. ⌜ r ≡ digits (now (line .entry)) ⌝ }
+{
+    let mut i = 0;
+    while i < line.len() {
+        if 16 <= digit_of(table, line[i]) {
+            return false;
+        }
+        i += 1;
+    }
+    true
+}
+
+// The byte of the two digits at a place.
+fn byte_at(table: &[u8; 256], line: &[u8], at: usize) -> u8
+    requires { ⌜ (now table ≡ valuesFrom 0 256) × (at + 1 < length (now line)) × (digits (now line) ≡ true) ⌝ }
+    ensures { λ r. ⌜ r ≡ byte (getD (now (line .entry)) at 0) (getD (now (line .entry)) (at + 1) 0) ⌝ }
+{
+    digit_of(table, line[at]) * 16 + digit_of(table, line[at + 1])
+}
+
+// The number of the eight digits at a place.
+fn number_at(table: &[u8; 256], line: &[u8], at: usize) -> u32
+    requires { ⌜ (now table ≡ valuesFrom 0 256) × (at + 7 < length (now line)) × (digits (now line) ≡ true) ⌝ }
+    ensures { λ r. ⌜ r ≡ big (take 8 (drop at (now (line .entry)))) ⌝ }
+{
+    let a = wide(byte_at(table, line, at));
+    let b = wide(byte_at(table, line, at + 2));
+    let c = wide(byte_at(table, line, at + 4));
+    let d = wide(byte_at(table, line, at + 6));
+    a * 16777216 + b * 65536 + c * 256 + d
+}
+
+// The facts that the first line gives.
+pub fn facts_of(line: &[u8]) -> FactsLine
+    ensures { λ r. ⌜ r ≡ factsOf (now (line .entry)) ⌝ }
+{
+    if line.len() == 32 {
+        let table = characters::table();
+        if all_digits(&table, line) {
+            return FactsLine::Facts {
+                strings: number_at(&table, line, 0),
+                contigs: number_at(&table, line, 8),
+                people: number_at(&table, line, 16),
+                gt: number_at(&table, line, 24),
+            };
+        }
+        return FactsLine::NoFacts;
+    }
+    FactsLine::NoFacts
+}
+
+// Stores the n bytes of a line of digits from the buffer's start on.
+fn store(table: &[u8; 256], line: &[u8], n: usize, buf: &mut [u8])
+    requires { ⌜ (now table ≡ valuesFrom 0 256) × (length (now line) ≡ n * 2) × (n ≤ length (now buf)) × (digits (now line) ≡ true) ⌝ }
+    ensures { λ _. ⌜ now (buf .exit) ≡ sets (now (buf .entry)) 0 (paired (now (line .entry))) ⌝ }
+{
+    let mut i = 0;
+    let mut o = 0;
+    while i < line.len() {
+        buf[o] = byte_at(table, line, i);
+        o += 1;
+        i += 2;
+    }
+}
+
+// A record's line: its bytes stored from the buffer's start on; a bad line is told before a short buffer, and neither writes.
+pub fn decode(line: &[u8], buf: &mut [u8]) -> Frame
+    ensures told { λ r. ⌜ r ≡ answered (length (now (buf .entry))) (frameOf (now (line .entry))) ⌝ }
+    ensures inside { λ r. ⌜ bytesInside (length (now (buf .entry))) r ⌝ }
+    ensures written { λ _. ⌜ now (buf .exit) ≡ stored (now (buf .entry)) (frameOf (now (line .entry))) ⌝ }
+{
+    if 60000 < line.len() {
+        return Frame::Bad;
+    }
+    if line.len() % 2 == 1 {
+        return Frame::Bad;
+    }
+    let table = characters::table();
+    if all_digits(&table, line) {
+        let n = line.len() / 2;
+        if buf.len() < n {
+            return Frame::NoRoom;
+        }
+        store(&table, line, n, buf);
+        return Frame::Bytes(n);
+    }
+    Frame::Bad
+}

@@ -1,0 +1,42 @@
+-- The tally: of a record that is read, and of at most 64 alleles, the calls of its people. Rests on reading and on calls.
+use Prim.Native.Nat.{ℕ, _*_}
+use mathlib.Core.List.{List}
+use lib.Dec.{ltb, eqb}
+use lib.ListN.{take, drop, replicate}
+use Rattle.words.specs.Pick.{pick}
+use Rattle.types.specs.Rows.{widthOf}
+use Rattle.values.specs.Answers.{refusal}
+use Rattle.values.specs.declared.Refusal.{Refusal}
+use Rattle.fixed.specs.declared.Facts.{Facts}
+use Rattle.genotypes.specs.declared.Gt.{Gt}
+use Rattle.record.specs.Reading.{reading}
+use Rattle.record.specs.declared.Reading.{Reading}
+use Rattle.record.specs.declared.Reading.the-variants.{Accepted, Refused as Unread}
+use Rattle.calls.specs.Calls.{counted}
+use Rattle.calls.specs.declared.Calls.{Calls}
+use Rattle.tally.specs.declared.Counting.{Counting}
+use Rattle.tally.specs.declared.Counting.the-variants.{Counted, Refused}
+use Rattle.tally.specs.declared.Tallied.{Tallied}
+
+-- so many people without a genotype, and no call
+abbrev pub nobody : ℕ → Calls
+nobody people = record { without = people; counts = replicate 65 0 }
+
+-- where GT has no length, or there is none, everybody is without a genotype; else its elements are counted
+unfoldable pub callsOf : Gt → ℕ → List ℕ → Calls
+callsOf g people s =
+    pick (eqb (g .len) 0) (nobody people)
+    (counted (g .code) (g .len) (take (people * g .len * widthOf (g .code)) (drop (g .first) s)))
+
+-- 01's number and place, with every counter 0
+abbrev pub refusedTally : Refusal → Tallied
+refusedTally r = record { answer = Refused r; calls = nobody 0 }
+
+-- reading's refusals, then 15 for more than 64 alleles, then the calls
+abbrev pub tallyOf : List ℕ → Reading → Tallied
+tallyOf s (Unread r) = refusedTally r
+tallyOf s (Accepted t g) =
+    pick (ltb 64 (t .alleles)) (refusedTally (refusal 15 0)) (record { answer = Counted t; calls = callsOf g (t .people) s })
+
+unfoldable pub tallied : Facts → List ℕ → Tallied
+tallied f s = tallyOf s (reading f s)
