@@ -1,12 +1,15 @@
 -- The marked examples are computed. Rests on specs/Marked.
-use mathlib.Core.Path.{refl}
+use mathlib.Core.Path.{refl, ap}
+use lib.ListN.{take, drop}
 use Rattle.words.specs.Words.{le, number}
 use Rattle.types.specs.Rows.{rowOf, widthOf}
 use Rattle.types.specs.Elements.{marked, kind, widened, shown, narrowest}
 use Rattle.values.specs.Values.{integer, trueLength, described, present}
 use Rattle.vectors.specs.Vectors.{numbers, vector, vectors, judged}
 use Rattle.vectors.specs.Sound.{highest, codeMost}
+use Rattle.tally.specs.declared.Tallied.{Tallied}
 use Rattle.laws.specs.Marked.{Marked}
+use Rattle.laws.proofs.Sample.{sample-read}
 
 pub examples : Marked
 unfolding le number rowOf widthOf marked kind widened shown narrowest integer trueLength described present numbers vector vectors judged highest codeMost
@@ -33,4 +36,5 @@ examples =
       m10-sound = refl;
       m10-high = refl;
       m10-negative = refl;
+      m11 = ap (λ (t : Tallied). take 2 (drop 1 (t .calls .counts))) (sample-read .tally);
     }

@@ -16,8 +16,13 @@ use Rattle.site.specs.Site.{info, site}
 use Rattle.genotypes.specs.Formats.{roleOf, gtNow, formats}
 use Rattle.record.specs.Reading.{siteOf, genotypesOf, reading}
 use Rattle.record.specs.Shown.{elementsOf, pairsShown, fieldsShown, allelesThen, nothing, shownOf}
+use Rattle.calls.specs.Calls.{slots, alleleOf, alleles, people, called, without, howMany, counters, tally, peopleOf, counted}
+use Rattle.tally.specs.Tally.{callsOf, tallied}
+use Rattle.decimal.specs.Decimal.{written, decimal}
+use Rattle.frames.specs.Text.{spaced}
+use Rattle.frames.specs.Frames.{callNumbers, acceptedLine, recordLine}
 use Rattle.laws.specs.Sample.{Sample, sample}
 
 pub sample-read : Sample
-unfolding sample among le number outside rowOf widthOf marked kind widened shown integer trueLength keyed described present numbers shownNumbers vector vectors judged highest codeMost sound field posWrong peopleWrong qualWrong blocks fixed times alleleBytes allele filters filtered filter info site roleOf gtNow formats siteOf genotypesOf reading elementsOf pairsShown fieldsShown allelesThen nothing shownOf
-sample-read = record { read = refl; shows = refl }
+unfolding sample among le number outside rowOf widthOf marked kind widened shown integer trueLength keyed described present numbers shownNumbers vector vectors judged highest codeMost sound field posWrong peopleWrong qualWrong blocks fixed times alleleBytes allele filters filtered filter info site roleOf gtNow formats siteOf genotypesOf reading elementsOf pairsShown fieldsShown allelesThen nothing shownOf slots alleleOf alleles people called without howMany counters tally peopleOf counted callsOf tallied written decimal spaced callNumbers acceptedLine recordLine
+sample-read = record { read = refl; shows = refl; tally = refl; line = refl }

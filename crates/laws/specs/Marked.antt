@@ -3,6 +3,7 @@ use mathlib.Core.Path.{_≡_}
 use mathlib.Core.List.{List, [], _∷_}
 use Prim.Native.Nat.{ℕ}
 use lib.IntN.{pos, negsuc}
+use lib.ListN.{take, drop}
 use mir.Syntax.{w32}
 use mir.Val.{toZ, ofZ}
 use Rattle.types.specs.Elements.{shown, narrowest}
@@ -12,6 +13,8 @@ use Rattle.values.specs.Values.{described, present}
 use Rattle.vectors.specs.Sound.{mostOf}
 use Rattle.vectors.specs.Vectors.{judged, unsound}
 use Rattle.vectors.specs.declared.Judged.the-variants.{Sound}
+use Rattle.tally.specs.Tally.{tallied}
+use Rattle.laws.specs.Sample.{facts, sample}
 
 -- no plain element is too large
 abbrev pub any : ℕ
@@ -50,3 +53,5 @@ pub record Marked : Type 0 where
   pub m10-sound : judged (mostOf Gt 2 1) 1 1 (0x05 ∷ []) ≡ Sound
   pub m10-high : judged (mostOf Gt 2 1) 1 1 (0x06 ∷ []) ≡ unsound 10 0
   pub m10-negative : judged (mostOf Gt 2 1) 1 1 (0xFF ∷ []) ≡ unsound 10 0
+  -- M11 the sample record tallies 2 and 1: the calls of allele 0 and of allele 1
+  pub m11 : take 2 (drop 1 (tallied facts sample .calls .counts)) ≡ 2 ∷ 1 ∷ []

@@ -1,13 +1,18 @@
--- 01's sample record, the input of the line program's example: how it is read, and what it shows. Rests on record's definitions.
+-- 01's sample record, the input of the line program's example: how it is read, what it
+-- shows, its tally and the line that is printed of it. Rests on the definitions of record, tally and frames.
 use mathlib.Core.Path.{_≡_}
 use mathlib.Core.List.{List, [], _∷_}
 use Prim.Native.Nat.{ℕ}
+use lib.ListN.{replicate}
 use Rattle.fixed.specs.declared.Facts.{Facts}
 use Rattle.fixed.specs.declared.Site.{Site}
 use Rattle.genotypes.specs.Formats.{gtAt}
 use Rattle.record.specs.Reading.{reading}
 use Rattle.record.specs.Shown.{Shown, shownOf, integers}
 use Rattle.record.specs.declared.Reading.the-variants.{Accepted}
+use Rattle.tally.specs.Tally.{tallied}
+use Rattle.tally.specs.declared.Counting.the-variants.{Counted}
+use Rattle.frames.specs.Frames.{recordLine}
 
 -- four strings, one contig, two people, GT at offset 3
 abbrev pub facts : Facts
@@ -50,3 +55,8 @@ pub record Sample : Type 0 where
         infos = record { key = 2; value = record { kind = integers; elements = 14 ∷ [] } } ∷ [];
         formats = record { key = 3; len = 2; value = record { kind = integers; elements = 2 ∷ 3 ∷ 4 ∷ 0x80000001 ∷ [] } } ∷ [];
       }
+  -- tallied: nobody without a genotype, no missing allele, two calls of allele 0 and one of allele 1; the padding is no call
+  pub tally : tallied facts sample ≡ record { answer = Counted sampleSite; calls = record { without = 0; counts = 0 ∷ 2 ∷ 1 ∷ replicate 62 0 } }
+  -- and so the line program says `ok 50 2 1 1 2 0 0 2 1`
+  pub line : recordLine facts sample
+      ≡ 0x6F ∷ 0x6B ∷ 0x20 ∷ 0x35 ∷ 0x30 ∷ 0x20 ∷ 0x32 ∷ 0x20 ∷ 0x31 ∷ 0x20 ∷ 0x31 ∷ 0x20 ∷ 0x32 ∷ 0x20 ∷ 0x30 ∷ 0x20 ∷ 0x30 ∷ 0x20 ∷ 0x32 ∷ 0x20 ∷ 0x31 ∷ 0x0A ∷ []
