@@ -7,12 +7,13 @@ use Rattle.types.specs.Elements.{marked, kind, widened, shown, narrowest}
 use Rattle.values.specs.Values.{integer, trueLength, described, present}
 use Rattle.vectors.specs.Vectors.{numbers, vector, vectors, judged}
 use Rattle.vectors.specs.Sound.{highest, codeMost}
+use Rattle.elements.specs.Elements.{codeCall, callAt}
 use Rattle.tally.specs.declared.Tallied.{Tallied}
 use Rattle.laws.specs.Marked.{Marked}
 use Rattle.laws.proofs.Sample.{sample-read}
 
 pub examples : Marked
-unfolding le number rowOf widthOf marked kind widened shown narrowest integer trueLength described present numbers vector vectors judged highest codeMost
+unfolding le number rowOf widthOf marked kind widened shown narrowest integer trueLength described present numbers vector vectors judged highest codeMost codeCall callAt
 examples =
     record {
       m1 = λ rest. refl;
@@ -33,6 +34,7 @@ examples =
       m9-whole = λ last. refl;
       m9-accepted = refl;
       m9-refused = refl;
+      m10-call = refl;
       m10-sound = refl;
       m10-high = refl;
       m10-negative = refl;

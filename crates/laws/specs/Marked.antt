@@ -1,5 +1,6 @@
 -- 01's marked examples, one statement with the fields of each. Rests on the definitions of types, values and vectors.
 use mathlib.Core.Path.{_≡_}
+use mathlib.Core.Bool.{true}
 use mathlib.Core.List.{List, [], _∷_}
 use Prim.Native.Nat.{ℕ}
 use lib.IntN.{pos, negsuc}
@@ -13,6 +14,8 @@ use Rattle.values.specs.Values.{described, present}
 use Rattle.vectors.specs.Sound.{mostOf}
 use Rattle.vectors.specs.Vectors.{judged, unsound}
 use Rattle.vectors.specs.declared.Judged.the-variants.{Sound}
+use Rattle.elements.specs.Elements.{callAt}
+use Rattle.elements.specs.declared.Call.the-variants.{Allele}
 use Rattle.tally.specs.Tally.{tallied}
 use Rattle.laws.specs.Sample.{facts, sample}
 
@@ -49,7 +52,8 @@ pub record Marked : Type 0 where
   pub m9-whole : (last : ℕ) → present 1 Info 0 (0x31 ∷ 0x05 ∷ 0x81 ∷ last ∷ []) ≡ whole 1 3 1 4
   pub m9-accepted : judged any 1 3 (0x05 ∷ 0x81 ∷ 0x81 ∷ []) ≡ Sound
   pub m9-refused : judged any 1 3 (0x05 ∷ 0x81 ∷ 0x06 ∷ []) ≡ unsound 9 2
-  -- M10 two alleles, GT of type 1: `05` is sound; `06` and `FF` give 10
+  -- M10 two alleles, GT of type 1: `05` is sound, and says allele 1, phased; `06` and `FF` give 10
+  pub m10-call : callAt 1 0 (0x05 ∷ []) ≡ Allele 1 true
   pub m10-sound : judged (mostOf Gt 2 1) 1 1 (0x05 ∷ []) ≡ Sound
   pub m10-high : judged (mostOf Gt 2 1) 1 1 (0x06 ∷ []) ≡ unsound 10 0
   pub m10-negative : judged (mostOf Gt 2 1) 1 1 (0xFF ∷ []) ≡ unsound 10 0

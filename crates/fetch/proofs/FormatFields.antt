@@ -1,0 +1,141 @@
+-- FORMAT fields that reading judged sound are passed to the same end: GT's types are FORMAT's too. Rests on proofs/Agree and on the
+-- definitions of genotypes.
+use mathlib.Core.Path.{_≡_, refl}
+use mathlib.Core.List.{List, [], _∷_, _++_}
+use mathlib.Core.Bool.{Bool, true, false}
+use Prim.Native.Nat.{ℕ, zero, suc, _+_, _-_, _/_, _%_, _≤_}
+use native.Mathlib.Omega.{arith}
+use lib.Dec.{eqb, ltb}
+use lib.ListN.{length, getD, drop}
+use Rattle.words.specs.Lists.{among}
+use Rattle.words.specs.Pick.{pick}
+use Rattle.words.specs.Words.{outside}
+use Rattle.types.specs.Rows.{rows, rowOf, unused}
+use Rattle.types.specs.declared.Row.{Row}
+use Rattle.types.specs.declared.Use.the-variants.{Key, Format as FormatUse, Gt as GtUse}
+use Rattle.values.specs.Answers.{noInteger, one, noDescriptor, typed}
+use Rattle.values.specs.Values.{integer, inDictionary, keyed, withLength, trueLength, described, withElements, present}
+use Rattle.values.specs.declared.Integer.{Integer}
+use Rattle.values.specs.declared.Integer.the-variants.{One, Refused as NoInteger}
+use Rattle.values.specs.declared.Descriptor.{Descriptor}
+use Rattle.values.specs.declared.Descriptor.the-variants.{Typed, Refused as NoDescriptor}
+use Rattle.values.specs.declared.Value.{Value}
+use Rattle.values.specs.declared.Value.the-variants.{Present, Refused as NoValue}
+use Rattle.vectors.specs.Sound.{sound}
+use Rattle.site.specs.Steps.{times}
+use Rattle.site.specs.declared.Step.the-variants.{At}
+use Rattle.genotypes.specs.Formats.{formats, afterKey, afterValue, noGenotypes, roleOf, gtNow, gtAt, Rest}
+use Rattle.genotypes.specs.declared.Gt.{Gt}
+use Rattle.genotypes.specs.declared.Genotypes.the-variants.{Sound}
+use Rattle.fetch.specs.Fetch.{afterKey as keyThen, paired, fieldStep, passing, past}
+use Rattle.fetch.specs.declared.Kind.the-variants.{Format}
+use Rattle.fetch.proofs.Later.{integerLater, integer-later, present-later, drop-past}
+use Rattle.fetch.proofs.Agree.{sound-there}
+
+-- a row that allows GT allows FORMAT, at each row of the table
+abbrev wider : Row → Bool
+wider r = pick (r .gt) (r .format) true
+
+abbrev every : List Row → Bool
+every [] = true
+every (r ∷ rs) = pick (wider r) (every rs) false
+
+head-of : (a b : Bool) → pick a b false ≡ true → a ≡ true
+head-of true b h = refl
+head-of false b h = h
+
+rest-of : (a b : Bool) → pick a b false ≡ true → b ≡ true
+rest-of true b h = h
+rest-of false b h = cc
+
+each-wider : (rs : List Row) (d : Row) (k : ℕ) → every rs ≡ true → wider d ≡ true → wider (getD rs k d) ≡ true
+each-wider [] d k h e = e
+each-wider (r ∷ rs) d zero h e = head-of (wider r) (every rs) h
+each-wider (r ∷ rs) d (suc k) h e = each-wider rs d k (rest-of (wider r) (every rs) h) e
+
+implied : (a b : Bool) → pick a b true ≡ true → a ≡ true → b ≡ true
+implied true b h e = h
+implied false b h e = cc
+
+gt-format : (t : ℕ) → rowOf t .gt ≡ true → rowOf t .format ≡ true
+unfolding rowOf
+gt-format t h = implied (getD rows t unused .gt) (getD rows t unused .format) (each-wider rows unused t refl refl) h
+
+-- a test that lets more through, before the same answers
+more-typed : (b c : Bool) (x : Descriptor) (at : ℕ) {t n first : ℕ} → (b ≡ true → c ≡ true)
+    → pick b x (noDescriptor 6 at) ≡ Typed t n first → pick c x (noDescriptor 6 at) ≡ Typed t n first
+more-typed true true x at f h = h
+more-typed true false x at f h = let z = f refl in cc
+more-typed false c x at f h = cc
+
+gt-described : (at : ℕ) (l : List ℕ) {t n first : ℕ} → described GtUse at l ≡ Typed t n first → described FormatUse at l ≡ Typed t n first
+unfolding described
+gt-described at [] h = h
+gt-described at (d ∷ rest) h =
+    more-typed (rowOf (d % 16) .gt) (rowOf (d % 16) .format)
+    (pick (ltb (d / 16) 15) (typed (d % 16) (d / 16) (at + 1)) (withLength (d % 16) (trueLength (at + 1) rest))) at
+    (gt-format (d % 16)) h
+
+role-described : (b : Bool) (at : ℕ) (l : List ℕ) (t n first : ℕ) → described (pick b GtUse FormatUse) at l ≡ Typed t n first
+    → described FormatUse at l ≡ Typed t n first
+role-described true at l t n first h = gt-described at l h
+role-described false at l t n first h = h
+
+same-elements : (vectors end : ℕ) (d e : Descriptor) {t n first stop : ℕ} → ((t n first : ℕ) → d ≡ Typed t n first → e ≡ Typed t n first)
+    → withElements vectors end d ≡ Present t n first stop → withElements vectors end e ≡ Present t n first stop
+same-elements vectors end (NoDescriptor r) e f h = cc
+same-elements vectors end (Typed t n first) e f h = rw (f t n first refl) h
+
+pub format-there : (people alleles key gt at : ℕ) (l : List ℕ) (t n first stop : ℕ)
+    → sound people alleles (roleOf key gt) at l ≡ Present t n first stop → present people FormatUse at l ≡ Present t n first stop
+unfolding present roleOf
+format-there people alleles key gt at l t n first stop h =
+    same-elements people (at + length l) (described (pick (eqb key gt) GtUse FormatUse) at l) (described FormatUse at l)
+    (role-described (eqb key gt) at l) (sound-there people alleles (roleOf key gt) at l t n first stop h)
+
+-- a FORMAT field that is sound: where it ends, and what follows it
+pub record Passed (people at : ℕ) (l : List ℕ) (i : Integer) (rest : Rest) (g : Gt) : Type 0 where
+  pub stop : ℕ
+  pub earlier : List ℕ
+  pub known : Gt
+  pub passed : fieldStep (keyThen people FormatUse at l i) ≡ At stop
+  pub on : rest earlier known stop (drop (stop - at) l) ≡ Sound g
+
+format-passed : (strings people gt alleles : ℕ) (earlier : List ℕ) (known : Gt) (at : ℕ) (l : List ℕ) (rest : Rest) (i : Integer) {g : Gt}
+    → integerLater at i → afterKey people gt alleles earlier known at l rest (inDictionary strings at i) ≡ Sound g → Passed people at l i rest g
+format-passed strings people gt alleles earlier known at l rest (NoInteger r) k h = let z : _≡_ {A = ℕ} 0 1 = cc in absurd (omega arith)
+format-passed strings people gt alleles earlier known at l rest (One key next) k h = by-key (outside strings key) h
+  where
+    by-value : (c : Bool) (v : Value) {g : Gt} → sound people alleles (roleOf key gt) next (drop (next - at) l) ≡ v
+        → pick c (noGenotypes 11 (at + 1)) (afterValue key gt earlier known next (drop (next - at) l) rest v) ≡ Sound g
+        → Passed people at l (One key next) rest g
+    by-value true v s e = let z : _≡_ {A = ℕ} 0 1 = cc in absurd (omega arith)
+    by-value false (NoValue r) s e = let z : _≡_ {A = ℕ} 0 1 = cc in absurd (omega arith)
+    by-value false (Present t n first stop) s e =
+        let q = format-there people alleles key gt next (drop (next - at) l) t n first stop s in
+        let j : next ≤ stop = rw q at (present-later people FormatUse next (drop (next - at) l)) in
+        record {
+          stop = stop;
+          earlier = earlier ++ (key ∷ []);
+          known = gtNow key gt (gtAt t n first) known;
+          passed = rw q;
+          on = rw (drop-past l at next stop k j) at e;
+        }
+
+    by-key : (b : Bool) {g : Gt} → afterKey people gt alleles earlier known at l rest (pick b (noInteger 8 (at + 1)) (one key next)) ≡ Sound g
+        → Passed people at l (One key next) rest g
+    by-key true e = let z : _≡_ {A = ℕ} 0 1 = cc in absurd (omega arith)
+    by-key false e = by-value (among key earlier) (sound people alleles (roleOf key gt) next (drop (next - at) l)) refl e
+
+pub record Ends (people n at : ℕ) (l : List ℕ) : Type 0 where
+  pub end : ℕ
+  pub walked : past Format people n at l ≡ At end
+
+pub formats-passed : (strings people gt alleles n : ℕ) (earlier : List ℕ) (known : Gt) (at : ℕ) (l : List ℕ) {g : Gt}
+    → formats strings people gt alleles n earlier known at l ≡ Sound g → Ends people n at l
+unfolding formats past times passing paired keyed
+formats-passed strings people gt alleles zero earlier known at l h = record { end = at; walked = refl }
+formats-passed strings people gt alleles (suc n) earlier known at l h =
+    let w = format-passed strings people gt alleles earlier known at l (formats strings people gt alleles n) (integer Key at l) (integer-later Key at l) h in
+    let r = formats-passed strings people gt alleles n (w .earlier) (w .known) (w .stop) (drop (w .stop - at) l) (w .on) in
+    record { end = r .end; walked = rw (w .passed) (r .walked) }

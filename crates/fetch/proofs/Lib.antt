@@ -1,0 +1,5 @@
+pub mod Agree
+pub mod Fields
+pub mod FormatFields
+pub mod Later
+pub mod There

@@ -1,0 +1,63 @@
+-- `fetch::field_in` meets its contract.
+use native.Mathlib.Omega.{arith}
+use lib.ListN.{length}
+use Rattle.words.proofs.Places.{drop-on}
+use Rattle.fetch.specs.Fetch.{fieldIn}
+use Rattle.fetch.proofs.Fields.{found-on}
+use borrow.Author.Needs.{needs}
+use Rattle.fetch.proofs.field_in.Statement.{statement}
+use Rattle.fetch.proofs.field_in.Tie as tie
+use Rattle.fetch.proofs.field_in.Reads as reads
+use Rattle.fetch.proofs.field_in.Lts as lts
+use Rattle.fetch.proofs.field_at.Reads as field-at-reads
+use Rattle.fetch.proofs.step_refused.Reads as step-refused-reads
+use Rattle.fetch.proofs.to_field.Reads as to-field-reads
+
+-- src/lib.rt:208:9
+to-field-requires : tie.Need-to-field-requires
+to-field-requires c κs = search needs
+
+-- src/lib.rt:209:18
+enum-known-p : tie.Need-enum-known-p
+enum-known-p c = search needs
+
+-- src/lib.rt:210:9
+enum-told : tie.Need-enum-told
+enum-told c = search needs
+
+-- src/lib.rt:210:9
+step-refused-requires : tie.Need-step-refused-requires
+step-refused-requires c κs = search needs
+
+-- src/lib.rt:210:9
+returns : tie.Need-returns
+unfolding fieldIn
+returns c = (simp (← c .before .before .before .to-field .ensures .0, c .before .enum-told .given .1, c .step-refused .ensures), rw (c .step-refused .ensures, c .before .enum-told .given .1) tt)
+
+-- src/lib.rt:212:5
+field-at-requires : tie.Need-field-at-requires
+field-at-requires c κs = search needs
+
+-- src/lib.rt:204:1
+returns-2 : tie.Need-returns-2
+unfolding fieldIn
+returns-2 c =
+    let a = c .before .before .before .before .before .before .args in
+    let s = a .block .now in
+    let i = rw (c .before .before .p .given .1) at (c .before .before .before .before .to-field .ensures .1) in
+    let q = c .before .before .p .given .0 .0 in (
+      simp (← c .before .before .before .before .to-field .ensures .0, c .before .before .p .given .1, drop-on s (a .from) q (i .0), c .field-at .ensures .0),
+      found-on (c .field-at .result) q (a .from) (length s) (length s) (i .0) (omega arith) (c .field-at .ensures .1),
+    )
+
+pub field-in-spec : {M : Type 1} → statement M
+field-in-spec =
+    tie.close
+    (tie.spec
+    to-field-requires
+    enum-known-p
+    enum-told
+    step-refused-requires
+    returns
+    field-at-requires
+    returns-2)

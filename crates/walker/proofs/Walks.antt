@@ -1,0 +1,200 @@
+-- A walker yields the pairs that fetching numbers, in order. Rests on specs/Walk and on fetching's definitions.
+use mathlib.Core.Path.{_≡_, refl, sym, _∙_, ap}
+use mathlib.Core.List.{List, []}
+use mathlib.Core.Bool.{Bool, true, false}
+use Prim.Native.Nat.{ℕ, zero, suc, _+_, _-_, _/_, _%_, _≤_, _<_}
+use native.Mathlib.Omega.{arith}
+use lib.Dec.{ltb}
+use lib.ListN.{length, take, drop}
+use borrow.Author.Tests.{le-ltb, lt-leb, ltb-false}
+use Rattle.words.specs.Pick.{pick}
+use Rattle.words.specs.Words.{number, outside}
+use Rattle.words.proofs.Places.{drop-on}
+use Rattle.types.specs.declared.Use.the-variants.{Key, Info}
+use Rattle.values.specs.Values.{integer, present}
+use Rattle.values.specs.declared.Integer.{Integer}
+use Rattle.values.specs.declared.Integer.the-variants.{One, Refused as NoInteger}
+use Rattle.values.specs.declared.Value.{Value}
+use Rattle.values.specs.declared.Value.the-variants.{Present, Refused as NoValue}
+use Rattle.fixed.specs.Layout.{chromAt, posAt, rlenAt, countsAt, peopleAt, qualAt, idAt, mostBytes, field, posWrong, rlenWrong, countsWrong, peopleWrong, qualWrong}
+use Rattle.fixed.specs.Fixed.{noSite, noBlocks, blocks, fields, fixed}
+use Rattle.fixed.specs.declared.Facts.{Facts}
+use Rattle.fixed.specs.declared.Site.{Site}
+use Rattle.fixed.specs.declared.Blocks.{Blocks}
+use Rattle.fixed.specs.declared.Blocks.the-variants.{Lent, Refused as NoBlocks}
+use Rattle.fixed.specs.declared.Fixed.{Fixed}
+use Rattle.fixed.specs.declared.Fixed.the-variants.{Site as Front, Refused as NoSite}
+use Rattle.site.specs.Steps.{then, times}
+use Rattle.site.specs.declared.Step.{Step}
+use Rattle.site.specs.declared.Step.the-variants.{At, Refused as NoStep}
+use Rattle.genotypes.specs.declared.Gt.{Gt}
+use Rattle.genotypes.specs.declared.Genotypes.{Genotypes}
+use Rattle.genotypes.specs.declared.Genotypes.the-variants.{Sound, Refused as NoGenotypes}
+use Rattle.record.specs.Reading.{reading, afterFixed, afterSite, afterGenotypes, siteOf, genotypesOf}
+use Rattle.record.specs.declared.Reading.the-variants.{Accepted}
+use Rattle.fetch.proofs.Agree.{Went, went}
+use Rattle.fetch.proofs.Later.{passing-later, past-later}
+use Rattle.fetch.proofs.There.{accepted, site-walk}
+use Rattle.fetch.specs.Fetch.{valueField, afterKey, paired, fieldStep, passing, past, toInfo, toField, fieldIn, fieldOf, found}
+use Rattle.fetch.specs.declared.Kind.the-variants.{Info as InfoKind}
+use Rattle.fetch.specs.declared.Found.{Found as Fetched}
+use Rattle.fetch.specs.declared.Found.the-variants.{Field, Refused as NoField}
+use Rattle.walker.specs.Walk.{withValue, withKey, pairIn, pairAt, afterPair, nextAt, walkedTo, asPair, opened}
+use Rattle.walker.specs.declared.Opening.the-variants.{First}
+use Rattle.walker.specs.declared.Pair.{Pair}
+use Rattle.walker.specs.declared.Pair.the-variants.{Found, End}
+
+-- a pair is the field that fetching finds there
+value-pair : (key : ℕ) (v : Value) → withValue key v ≡ asPair (valueField key v)
+value-pair key (NoValue r) = refl
+value-pair key (Present t n first stop) = refl
+
+key-pair : (at : ℕ) (l : List ℕ) (i : Integer) → withKey at l i ≡ asPair (afterKey 1 Info at l i)
+key-pair at l (NoInteger r) = refl
+key-pair at l (One key next) = value-pair key (present 1 Info next (drop (next - at) l))
+
+pub pair-field : (at : ℕ) (l : List ℕ) → pairIn at l ≡ asPair (paired 1 Info at l)
+unfolding pairIn paired
+pair-field at l = key-pair at l (integer Key at l)
+
+-- in a record whose site block is all lent
+pub pair-lent : (s : List ℕ) (at : ℕ) → 8 ≤ length s → 8 + number 4 s ≤ length s
+    → pairAt s at ≡ asPair (paired 1 Info at (drop at (take (8 + number 4 s) s)))
+unfolding pairAt
+pair-lent s at h e = rw (le-ltb _ _ h, le-ltb _ _ e) (pair-field at (drop at (take (8 + number 4 s) s)))
+
+-- past a field is past the pair
+step-pair : (f : Fetched) (at q : ℕ) → fieldStep f ≡ At q → afterPair (asPair f) at ≡ q
+step-pair (NoField r) at q h = cc
+step-pair (Field key t n place stop) at q h = cc
+
+-- past n pairs: where fetching's steps come to is where the walker stands
+pub walk-past : (s : List ℕ) (people n at : ℕ) {q : ℕ} → 8 ≤ length s → 8 + number 4 s ≤ length s
+    → past InfoKind people n at (drop at (take (8 + number 4 s) s)) ≡ At q → walkedTo s n at ≡ q
+unfolding past times walkedTo passing
+walk-past s people zero at h e g = cc
+walk-past s people (suc n) at {q} h e g =
+    let block = take (8 + number 4 s) s in
+    let w = went at (drop at block) (passing InfoKind people at (drop at block)) (past InfoKind people n) g in
+    let l = rw (w .here) at (passing-later InfoKind people at (drop at block)) in
+    let m : nextAt s at ≡ w .place = ap (λ (p : Pair). afterPair p at) (pair-lent s at h e) ∙ step-pair (paired 1 Info at (drop at block)) at (w .place) (w .here) in
+    rw m (walk-past s people n (w .place) h e (rw (drop-on block at (w .place) l) at (w .on)))
+
+-- an accepted record's front: its site block is all lent, and ends where the site says
+front-of : (f : Facts) (s : List ℕ) (t : Site) (g : Gt) → reading f s ≡ Accepted t g → fixed f s ≡ Front t
+unfolding reading
+front-of f s t g h = by-front (fixed f s) h
+  where
+    by-genotypes : (t′ : Site) (x : Genotypes) → afterGenotypes t′ x ≡ Accepted t g → Front t′ ≡ Front t
+    by-genotypes t′ (NoGenotypes r) e = cc
+    by-genotypes t′ (Sound g′) e = cc
+
+    by-site : (t′ : Site) (p : Step) → afterSite f t′ s p ≡ Accepted t g → Front t′ ≡ Front t
+    by-site t′ (NoStep r) e = cc
+    by-site t′ (At q) e = by-genotypes t′ (genotypesOf f t′ s) e
+
+    by-front : (x : Fixed) → afterFixed f s x ≡ Accepted t g → x ≡ Front t
+    by-front (NoSite r) e = cc
+    by-front (Front t′) e = by-site t′ (siteOf f t′ s) e
+
+-- a test whose refusal did not come
+no-site : (b : Bool) (n p : ℕ) (y : Fixed) {t : Site} → pick b (noSite n p) y ≡ Front t → y ≡ Front t
+no-site true n p y h = cc
+no-site false n p y h = h
+
+site-border : (f : Facts) (s : List ℕ) (b : Blocks) (t : Site) → fields f s b ≡ Front t → b ≡ Lent (t .border) (t .length)
+site-border f s (NoBlocks r) t h = cc
+site-border f s (Lent border whole) t h =
+    let h1 = no-site (outside (f .contigs) (field chromAt s)) 5 chromAt _ h in
+    let h2 = no-site (posWrong (field posAt s)) 5 posAt _ h1 in
+    let h3 = no-site (rlenWrong (field rlenAt s)) 5 rlenAt _ h2 in
+    let h4 = no-site (countsWrong (field countsAt s / 65536)) 5 countsAt _ h3 in
+    let h5 = no-site (peopleWrong (f .people) (field peopleAt s / 16777216) (field peopleAt s % 16777216)) 5 peopleAt _ h4 in
+    let h6 = no-site (qualWrong (field qualAt s)) 5 qualAt _ h5 in
+    same-blocks h6
+  where
+    same-blocks : {u : Site} → Front u ≡ Front t → Lent (u .border) (u .length) ≡ Lent (t .border) (t .length)
+    same-blocks {u} e = let k : u ≡ t = cc in rw k
+
+no-blocks : (b : Bool) (n p : ℕ) (y : Blocks) {x w : ℕ} → pick b (noBlocks n p) y ≡ Lent x w → (b ≡ false) × (y ≡ Lent x w)
+no-blocks true n p y h = let z : _≡_ {A = ℕ} 0 1 = cc in absurd (omega arith)
+no-blocks false n p y h = (refl, h)
+
+blocks-lent : (s : List ℕ) (border whole : ℕ) → blocks s ≡ Lent border whole → (8 ≤ length s) × (border ≡ 8 + number 4 s) × (border ≤ length s)
+unfolding blocks field
+blocks-lent s border whole h =
+    let b = 8 + number 4 s in
+    let w = b + number 4 (drop 4 s) in
+    let h1 = no-blocks (ltb (length s) 8) 1 0 _ h in
+    let h2 = no-blocks (ltb mostBytes w) 2 0 _ (h1 .1) in
+    let h3 = no-blocks (ltb (length s) w) 1 0 _ (h2 .1) in
+    let h4 = no-blocks (ltb b idAt) 3 b _ (h3 .1) in
+    let k : b ≡ border = same (h4 .1) in
+    let e : 8 ≤ length s = ltb-false (length s) 8 (h1 .0) in
+    let l : w ≤ length s = ltb-false (length s) w (h3 .0) in
+    (e, sym k, omega arith)
+  where
+    same : {x y u v : ℕ} → Lent x y ≡ Lent u v → x ≡ u
+    same e = cc
+
+-- of an accepted record
+pub record Lents (t : Site) (s : List ℕ) : Type 0 where
+  pub some : 8 ≤ length s
+  pub border : t .border ≡ 8 + number 4 s
+  pub lent : 8 + number 4 s ≤ length s
+
+pub accepted-lent : (f : Facts) (s : List ℕ) (t : Site) (g : Gt) → reading f s ≡ Accepted t g → Lents t s
+unfolding fixed
+accepted-lent f s t g h =
+    let k = blocks-lent s (t .border) (t .length) (site-border f s (blocks s) t (front-of f s t g h)) in
+    record { some = k .0; border = k .1; lent = rw (k .1) at (k .2) }
+
+-- where fewer fields lead, when more are passed
+record Reached (people m at : ℕ) (l : List ℕ) : Type 0 where
+  place : ℕ
+  here : past InfoKind people m at l ≡ At place
+
+reached : (people m n at : ℕ) (l : List ℕ) {e : ℕ} → past InfoKind people n at l ≡ At e → m ≤ n → Reached people m at l
+unfolding past times
+reached people zero n at l h q = record { place = at; here = refl }
+reached people (suc m) zero at l h q = absurd (omega arith)
+reached people (suc m) (suc n) at l h q =
+    let w = went at l (passing InfoKind people at l) (past InfoKind people n) h in
+    let r = reached people m n (w .place) (drop (w .place - at) l) (w .on) (omega arith) in
+    record { place = r .place; here = ap (λ (p : Step). then at l p (past InfoKind people m)) (w .here) ∙ r .here }
+
+-- what fetching finds at the place that its steps lead to
+found-at : (f : Facts) (s : List ℕ) (t : Site) (g : Gt) (q n r : ℕ) → reading f s ≡ Accepted t g → n < t .infos
+    → toInfo (t .alleles) idAt (drop idAt (take (t .border) s)) ≡ At q → idAt ≤ q
+    → past InfoKind (f .people) n q (drop q (take (t .border) s)) ≡ At r → q ≤ r
+    → found f InfoKind n s ≡ paired 1 Info r (drop r (take (t .border) s))
+unfolding found fieldOf fieldIn toField
+found-at f s t g q n r h i a b p c =
+    let block = take (t .border) s in
+    let d : idAt ≤ r = omega arith in
+    rw (h, lt-leb _ _ i, a, drop-on block idAt q b, p, drop-on block idAt r d)
+
+-- the law: on an accepted record the walk from where it opens yields the INFO pairs that fetching numbers, in order
+pub walk-finds : (f : Facts) (s : List ℕ) (t : Site) (g : Gt) (q n : ℕ) → reading f s ≡ Accepted t g → opened f s ≡ First q → n < t .infos
+    → pairAt s (walkedTo s n q) ≡ asPair (found f InfoKind n s)
+unfolding opened siteOf
+walk-finds f s t g q n h o i =
+    let block = take (t .border) s in
+    let l = drop idAt block in
+    let w = site-walk (f .strings) (f .people) (t .alleles) (t .infos) idAt l (accepted f s t g h .block) in
+    let k : w .infos ≡ q = same (rw (h, w .atInfos) at o) in
+    let b : idAt ≤ w .infos = w .infosLater in
+    let x = rw (drop-on block idAt (w .infos) b) at (w .infosPassed) in
+    let r = reached (f .people) n (t .infos) (w .infos) (drop (w .infos) block) x (omega arith) in
+    let c : w .infos ≤ r .place = rw (r .here) at (past-later InfoKind (f .people) n (w .infos) (drop (w .infos) block)) in
+    let z = accepted-lent f s t g h in
+    let here = ap (λ (e : ℕ). past InfoKind (f .people) n (w .infos) (drop (w .infos) (take e s))) (sym (z .border)) ∙ r .here in
+    let y = walk-past s (f .people) n (w .infos) (z .some) (z .lent) here in
+    ap (λ (x : ℕ). pairAt s (walkedTo s n x)) (sym k)
+    ∙ ap (pairAt s) y
+    ∙ pair-lent s (r .place) (z .some) (z .lent)
+    ∙ ap (λ (e : ℕ). asPair (paired 1 Info (r .place) (drop (r .place) (take e s)))) (sym (z .border))
+    ∙ ap asPair (sym (found-at f s t g (w .infos) n (r .place) h i (w .atInfos) b (r .here) c))
+  where
+    same : {x y : ℕ} → First x ≡ First y → x ≡ y
+    same e = cc
