@@ -1,3 +1,4 @@
+-- `walker::next_at` meets its contract.
 use borrow.Author.Needs.{needs}
 use Rattle.walker.proofs.next_at.Statement.{statement}
 use Rattle.walker.proofs.next_at.Tie as tie
