@@ -1,9 +1,9 @@
 -- FORMAT fields that reading judged sound are passed to the same end: GT's types are FORMAT's too. Rests on proofs/Agree and on the
 -- definitions of genotypes.
-use mathlib.Core.Path.{_≡_, refl}
+use mathlib.Core.Path.{_≡_, refl, _∙_}
 use mathlib.Core.List.{List, [], _∷_, _++_}
 use mathlib.Core.Bool.{Bool, true, false}
-use Prim.Native.Nat.{ℕ, zero, suc, _+_, _-_, _/_, _%_, _≤_}
+use Prim.Native.Nat.{ℕ, zero, suc, _+_, _-_, _/_, _%_}
 use native.Mathlib.Omega.{arith}
 use lib.Dec.{eqb, ltb}
 use lib.ListN.{length, getD, drop}
@@ -13,7 +13,7 @@ use Rattle.words.specs.Words.{outside}
 use Rattle.types.specs.Rows.{rows, rowOf, unused}
 use Rattle.types.specs.declared.Row.{Row}
 use Rattle.types.specs.declared.Use.the-variants.{Key, Format as FormatUse, Gt as GtUse}
-use Rattle.values.specs.Answers.{noInteger, one, noDescriptor, typed}
+use Rattle.values.specs.Answers.{integerInside, noInteger, one, noDescriptor, typed}
 use Rattle.values.specs.Values.{integer, inDictionary, keyed, withLength, trueLength, described, withElements, present}
 use Rattle.values.specs.declared.Integer.{Integer}
 use Rattle.values.specs.declared.Integer.the-variants.{One, Refused as NoInteger}
@@ -22,15 +22,16 @@ use Rattle.values.specs.declared.Descriptor.the-variants.{Typed, Refused as NoD
 use Rattle.values.specs.declared.Value.{Value}
 use Rattle.values.specs.declared.Value.the-variants.{Present, Refused as NoValue}
 use Rattle.vectors.specs.Sound.{sound}
-use Rattle.site.specs.Steps.{times}
-use Rattle.site.specs.declared.Step.the-variants.{At}
+use Rattle.site.specs.Steps.{times, valueStep}
+use Rattle.site.specs.declared.Step.{Step}
+use Rattle.site.specs.declared.Step.the-variants.{At, Refused as NoStep}
 use Rattle.genotypes.specs.Formats.{formats, afterKey, afterValue, noGenotypes, roleOf, gtNow, gtAt, Rest}
 use Rattle.genotypes.specs.declared.Gt.{Gt}
 use Rattle.genotypes.specs.declared.Genotypes.the-variants.{Sound}
-use Rattle.fetch.specs.Fetch.{afterKey as keyThen, paired, fieldStep, passing, past}
+use Rattle.fetch.specs.Fetch.{valueField, afterKey as keyThen, paired, fieldStep, passing}
 use Rattle.fetch.specs.declared.Kind.the-variants.{Format}
-use Rattle.fetch.proofs.Later.{integerLater, integer-later, present-later, drop-past}
-use Rattle.fetch.proofs.Agree.{sound-there}
+use Rattle.fetch.proofs.Inside.{keyed-inside, present-inside, drop-past}
+use Rattle.fetch.proofs.Agree.{sound-there, sound-past, value-passed}
 
 -- a row that allows GT allows FORMAT, at each row of the table
 abbrev wider : Row → Bool
@@ -93,49 +94,71 @@ format-there people alleles key gt at l t n first stop h =
     same-elements people (at + length l) (described (pick (eqb key gt) GtUse FormatUse) at l) (described FormatUse at l)
     (role-described (eqb key gt) at l) (sound-there people alleles (roleOf key gt) at l t n first stop h)
 
+-- reading's judgement of a FORMAT field, but for keys that stand twice
+abbrev pub formatValue : ℕ → ℕ → ℕ → ℕ → List ℕ → Integer → Step
+formatValue people gt alleles at l (NoInteger r) = NoStep r
+formatValue people gt alleles at l (One key next) = valueStep (sound people alleles (roleOf key gt) next (drop (next - at) l))
+
+unfoldable pub format : ℕ → ℕ → ℕ → ℕ → ℕ → List ℕ → Step
+format strings people gt alleles at l = formatValue people gt alleles at l (keyed strings at l)
+
+format-value : (strings people gt alleles at : ℕ) (l : List ℕ) (i : Integer) {q : ℕ}
+    → formatValue people gt alleles at l (inDictionary strings at i) ≡ At q → fieldStep (keyThen people FormatUse at l i) ≡ At q
+format-value strings people gt alleles at l (NoInteger r) h = h
+format-value strings people gt alleles at l (One key next) h = by-key (outside strings key) h
+  where
+    by-key : (b : Bool) {q′ : ℕ} → formatValue people gt alleles at l (pick b (noInteger 8 (at + 1)) (one key next)) ≡ At q′
+        → fieldStep (valueField key (present people FormatUse next (drop (next - at) l))) ≡ At q′
+    by-key true e = cc
+    by-key false e =
+        value-passed key (present people FormatUse next (drop (next - at) l))
+        ∙ sound-past (sound people alleles (roleOf key gt) next (drop (next - at) l)) (present people FormatUse next (drop (next - at) l)) (format-there people alleles key gt next (drop (next - at) l)) e
+
+pub format-passed : (strings people gt alleles at : ℕ) (l : List ℕ) (q : ℕ) → format strings people gt alleles at l ≡ At q
+    → passing Format people at l ≡ At q
+unfolding format passing paired keyed
+format-passed strings people gt alleles at l q h = format-value strings people gt alleles at l (integer Key at l) h
+
 -- a FORMAT field that is sound: where it ends, and what follows it
-pub record Passed (people at : ℕ) (l : List ℕ) (i : Integer) (rest : Rest) (g : Gt) : Type 0 where
+pub record Judged (people gt alleles at : ℕ) (l : List ℕ) (i : Integer) (rest : Rest) (g : Gt) : Type 0 where
   pub stop : ℕ
   pub earlier : List ℕ
   pub known : Gt
-  pub passed : fieldStep (keyThen people FormatUse at l i) ≡ At stop
+  pub judged : formatValue people gt alleles at l i ≡ At stop
   pub on : rest earlier known stop (drop (stop - at) l) ≡ Sound g
 
-format-passed : (strings people gt alleles : ℕ) (earlier : List ℕ) (known : Gt) (at : ℕ) (l : List ℕ) (rest : Rest) (i : Integer) {g : Gt}
-    → integerLater at i → afterKey people gt alleles earlier known at l rest (inDictionary strings at i) ≡ Sound g → Passed people at l i rest g
-format-passed strings people gt alleles earlier known at l rest (NoInteger r) k h = let z : _≡_ {A = ℕ} 0 1 = cc in absurd (omega arith)
-format-passed strings people gt alleles earlier known at l rest (One key next) k h = by-key (outside strings key) h
+format-judged : (people gt alleles : ℕ) (earlier : List ℕ) (known : Gt) (at : ℕ) (l : List ℕ) (rest : Rest) (i : Integer) {g : Gt}
+    → integerInside at (at + length l) i → afterKey people gt alleles earlier known at l rest i ≡ Sound g → Judged people gt alleles at l i rest g
+format-judged people gt alleles earlier known at l rest (NoInteger r) k h = let z : _≡_ {A = ℕ} 0 1 = cc in absurd (omega arith)
+format-judged people gt alleles earlier known at l rest (One key next) k h =
+    by-value (among key earlier) (sound people alleles (roleOf key gt) next (drop (next - at) l)) refl h
   where
     by-value : (c : Bool) (v : Value) {g : Gt} → sound people alleles (roleOf key gt) next (drop (next - at) l) ≡ v
         → pick c (noGenotypes 11 (at + 1)) (afterValue key gt earlier known next (drop (next - at) l) rest v) ≡ Sound g
-        → Passed people at l (One key next) rest g
+        → Judged people gt alleles at l (One key next) rest g
     by-value true v s e = let z : _≡_ {A = ℕ} 0 1 = cc in absurd (omega arith)
     by-value false (NoValue r) s e = let z : _≡_ {A = ℕ} 0 1 = cc in absurd (omega arith)
     by-value false (Present t n first stop) s e =
         let q = format-there people alleles key gt next (drop (next - at) l) t n first stop s in
-        let j : next ≤ stop = rw q at (present-later people FormatUse next (drop (next - at) l)) in
+        let j = rw q at (present-inside people FormatUse next (drop (next - at) l)) in
         record {
           stop = stop;
           earlier = earlier ++ (key ∷ []);
           known = gtNow key gt (gtAt t n first) known;
-          passed = rw q;
-          on = rw (drop-past l at next stop k j) at e;
+          judged = rw s;
+          on = rw (drop-past l at next stop (omega arith) (omega arith)) at e;
         }
 
-    by-key : (b : Bool) {g : Gt} → afterKey people gt alleles earlier known at l rest (pick b (noInteger 8 (at + 1)) (one key next)) ≡ Sound g
-        → Passed people at l (One key next) rest g
-    by-key true e = let z : _≡_ {A = ℕ} 0 1 = cc in absurd (omega arith)
-    by-key false e = by-value (among key earlier) (sound people alleles (roleOf key gt) next (drop (next - at) l)) refl e
-
-pub record Ends (people n at : ℕ) (l : List ℕ) : Type 0 where
+-- so many FORMAT fields that are sound
+pub record Ends (strings people gt alleles n at : ℕ) (l : List ℕ) : Type 0 where
   pub end : ℕ
-  pub walked : past Format people n at l ≡ At end
+  pub walked : times (format strings people gt alleles) n at l ≡ At end
 
-pub formats-passed : (strings people gt alleles n : ℕ) (earlier : List ℕ) (known : Gt) (at : ℕ) (l : List ℕ) {g : Gt}
-    → formats strings people gt alleles n earlier known at l ≡ Sound g → Ends people n at l
-unfolding formats past times passing paired keyed
-formats-passed strings people gt alleles zero earlier known at l h = record { end = at; walked = refl }
-formats-passed strings people gt alleles (suc n) earlier known at l h =
-    let w = format-passed strings people gt alleles earlier known at l (formats strings people gt alleles n) (integer Key at l) (integer-later Key at l) h in
-    let r = formats-passed strings people gt alleles n (w .earlier) (w .known) (w .stop) (drop (w .stop - at) l) (w .on) in
-    record { end = r .end; walked = rw (w .passed) (r .walked) }
+pub formats-judged : (strings people gt alleles n : ℕ) (earlier : List ℕ) (known : Gt) (at : ℕ) (l : List ℕ) {g : Gt}
+    → formats strings people gt alleles n earlier known at l ≡ Sound g → Ends strings people gt alleles n at l
+unfolding formats times format
+formats-judged strings people gt alleles zero earlier known at l h = record { end = at; walked = refl }
+formats-judged strings people gt alleles (suc n) earlier known at l h =
+    let w = format-judged people gt alleles earlier known at l (formats strings people gt alleles n) (keyed strings at l) (keyed-inside strings at l) h in
+    let r = formats-judged strings people gt alleles n (w .earlier) (w .known) (w .stop) (drop (w .stop - at) l) (w .on) in
+    record { end = r .end; walked = rw (w .judged) (r .walked) }

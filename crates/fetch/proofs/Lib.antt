@@ -1,5 +1,6 @@
 pub mod Agree
+pub mod Bytes
 pub mod Fields
 pub mod FormatFields
-pub mod Later
+pub mod Inside
 pub mod There

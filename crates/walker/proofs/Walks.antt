@@ -24,6 +24,7 @@ use Rattle.fixed.specs.declared.Blocks.{Blocks}
 use Rattle.fixed.specs.declared.Blocks.the-variants.{Lent, Refused as NoBlocks}
 use Rattle.fixed.specs.declared.Fixed.{Fixed}
 use Rattle.fixed.specs.declared.Fixed.the-variants.{Site as Front, Refused as NoSite}
+use Rattle.site.specs.Site.{info}
 use Rattle.site.specs.Steps.{then, times}
 use Rattle.site.specs.declared.Step.{Step}
 use Rattle.site.specs.declared.Step.the-variants.{At, Refused as NoStep}
@@ -32,8 +33,8 @@ use Rattle.genotypes.specs.declared.Genotypes.{Genotypes}
 use Rattle.genotypes.specs.declared.Genotypes.the-variants.{Sound, Refused as NoGenotypes}
 use Rattle.record.specs.Reading.{reading, afterFixed, afterSite, afterGenotypes, siteOf, genotypesOf}
 use Rattle.record.specs.declared.Reading.the-variants.{Accepted}
-use Rattle.fetch.proofs.Agree.{Went, went}
-use Rattle.fetch.proofs.Later.{passing-later, past-later}
+use Rattle.fetch.proofs.Agree.{Went, went, times-passed, info-passed}
+use Rattle.fetch.proofs.Inside.{passing-later, past-later}
 use Rattle.fetch.proofs.There.{accepted, site-walk}
 use Rattle.fetch.specs.Fetch.{valueField, afterKey, paired, fieldStep, passing, past, toInfo, toField, fieldIn, fieldOf, found}
 use Rattle.fetch.specs.declared.Kind.the-variants.{Info as InfoKind}
@@ -174,27 +175,54 @@ found-at f s t g q n r h i a b p c =
     let d : idAt ≤ r = omega arith in
     rw (h, lt-leb _ _ i, a, drop-on block idAt q b, p, drop-on block idAt r d)
 
--- the law: on an accepted record the walk from where it opens yields the INFO pairs that fetching numbers, in order
-pub walk-finds : (f : Facts) (s : List ℕ) (t : Site) (g : Gt) (q n : ℕ) → reading f s ≡ Accepted t g → opened f s ≡ First q → n < t .infos
-    → pairAt s (walkedTo s n q) ≡ asPair (found f InfoKind n s)
-unfolding opened siteOf
-walk-finds f s t g q n h o i =
+-- an accepted record's pairs: where they begin, that they are passed, and that nothing is over after the last
+record Pairs (f : Facts) (t : Site) (s : List ℕ) (q : ℕ) : Type 0 where
+  last : ℕ
+  begin : toInfo (t .alleles) idAt (drop idAt (take (t .border) s)) ≡ At q
+  later : idAt ≤ q
+  passed : past InfoKind (f .people) (t .infos) q (drop q (take (t .border) s)) ≡ At last
+  over : drop last (take (t .border) s) ≡ []
+
+pairs-of : (f : Facts) (s : List ℕ) (t : Site) (g : Gt) (q : ℕ) → reading f s ≡ Accepted t g → opened f s ≡ First q → Pairs f t s q
+unfolding opened siteOf past
+pairs-of f s t g q h o =
     let block = take (t .border) s in
     let l = drop idAt block in
-    let w = site-walk (f .strings) (f .people) (t .alleles) (t .infos) idAt l (accepted f s t g h .block) in
-    let k : w .infos ≡ q = same (rw (h, w .atInfos) at o) in
-    let b : idAt ≤ w .infos = w .infosLater in
-    let x = rw (drop-on block idAt (w .infos) b) at (w .infosPassed) in
-    let r = reached (f .people) n (t .infos) (w .infos) (drop (w .infos) block) x (omega arith) in
-    let c : w .infos ≤ r .place = rw (r .here) at (past-later InfoKind (f .people) n (w .infos) (drop (w .infos) block)) in
-    let z = accepted-lent f s t g h in
-    let here = ap (λ (e : ℕ). past InfoKind (f .people) n (w .infos) (drop (w .infos) (take e s))) (sym (z .border)) ∙ r .here in
-    let y = walk-past s (f .people) n (w .infos) (z .some) (z .lent) here in
-    ap (λ (x : ℕ). pairAt s (walkedTo s n x)) (sym k)
-    ∙ ap (pairAt s) y
-    ∙ pair-lent s (r .place) (z .some) (z .lent)
-    ∙ ap (λ (e : ℕ). asPair (paired 1 Info (r .place) (drop (r .place) (take e s)))) (sym (z .border))
-    ∙ ap asPair (sym (found-at f s t g (w .infos) n (r .place) h i (w .atInfos) b (r .here) c))
+    let w = site-walk f t idAt l (accepted f s t g h .block) in
+    let k : w .infos ≡ q = same (rw (h, w .toInfos) at o) in
+    let p = times-passed (info (f .strings)) (passing InfoKind (f .people)) (info-passed (f .strings) (f .people)) (t .infos) (w .infos) (drop (w .infos - idAt) l) (w .infosJudged) in
+    let x = rw (drop-on block idAt (w .infos) (w .infosLater)) at p in
+    let c : w .infos ≤ w .last = rw x at (past-later InfoKind (f .people) (t .infos) (w .infos) (drop (w .infos) block)) in
+    let v = rw (drop-on block idAt (w .infos) (w .infosLater), drop-on block (w .infos) (w .last) c) at (w .noneOver) in
+    record { last = w .last; begin = rw k at (w .toInfos); later = rw k at (w .infosLater); passed = rw k at x; over = v }
   where
     same : {x y : ℕ} → First x ≡ First y → x ≡ y
     same e = cc
+
+-- the law: on an accepted record the walk from where it opens yields the INFO pairs that fetching numbers, in order
+pub walk-finds : (f : Facts) (s : List ℕ) (t : Site) (g : Gt) (q n : ℕ) → reading f s ≡ Accepted t g → opened f s ≡ First q → n < t .infos
+    → pairAt s (walkedTo s n q) ≡ asPair (found f InfoKind n s)
+walk-finds f s t g q n h o i =
+    let w = pairs-of f s t g q h o in
+    let block = take (t .border) s in
+    let r = reached (f .people) n (t .infos) q (drop q block) (w .passed) (omega arith) in
+    let c : q ≤ r .place = rw (r .here) at (past-later InfoKind (f .people) n q (drop q block)) in
+    let z = accepted-lent f s t g h in
+    let here = ap (λ (e : ℕ). past InfoKind (f .people) n q (drop q (take e s))) (sym (z .border)) ∙ r .here in
+    ap (pairAt s) (walk-past s (f .people) n q (z .some) (z .lent) here)
+    ∙ pair-lent s (r .place) (z .some) (z .lent)
+    ∙ ap (λ (e : ℕ). asPair (paired 1 Info (r .place) (drop (r .place) (take e s)))) (sym (z .border))
+    ∙ ap asPair (sym (found-at f s t g q n (r .place) h i (w .begin) (w .later) (r .here) c))
+
+-- and then the end
+pub walk-ends : (f : Facts) (s : List ℕ) (t : Site) (g : Gt) (q : ℕ) → reading f s ≡ Accepted t g → opened f s ≡ First q
+    → pairAt s (walkedTo s (t .infos) q) ≡ End
+unfolding paired integer
+walk-ends f s t g q h o =
+    let w = pairs-of f s t g q h o in
+    let z = accepted-lent f s t g h in
+    let here = ap (λ (e : ℕ). past InfoKind (f .people) (t .infos) q (drop q (take e s))) (sym (z .border)) ∙ w .passed in
+    ap (pairAt s) (walk-past s (f .people) (t .infos) q (z .some) (z .lent) here)
+    ∙ pair-lent s (w .last) (z .some) (z .lent)
+    ∙ ap (λ (e : ℕ). asPair (paired 1 Info (w .last) (drop (w .last) (take e s)))) (sym (z .border))
+    ∙ ap (λ (l : List ℕ). asPair (paired 1 Info (w .last) l)) (w .over)
