@@ -2,7 +2,8 @@
 use mathlib.Core.Path.{_≡_, refl}
 use mathlib.Core.List.{[], _∷_}
 use lib.ListN.{length}
-use Rattle.decimal.specs.Decimal.{written, decimal, value, placed, filled}
+use Rattle.decimal.specs.Decimal.{written, decimal, value, placed}
+use Rattle.stores.specs.Stores.{filled}
 use Rattle.decimal.specs.declared.Put.the-variants.{At, NoRoom}
 
 pub record Worked : Type 0 where

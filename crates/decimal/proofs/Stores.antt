@@ -8,7 +8,7 @@ use lib.ListN.{length, set, length-append}
 use lib.Seq.{sets, set-comm, length-sets}
 use borrow.Author.Tests.{le-ltb}
 use Rattle.words.proofs.Stores.{sets-append}
-use Rattle.decimal.specs.Decimal.{filled}
+use Rattle.stores.specs.Stores.{filled}
 
 -- the last character may be stored before the others
 pub last-first : (xs : List ℕ) (c : ℕ) (l : List ℕ) (i : ℕ) → sets l i (xs ++ (c ∷ [])) ≡ sets (set l (i + length xs) c) i xs

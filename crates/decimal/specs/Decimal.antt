@@ -1,9 +1,8 @@
--- Numbers as decimal text, and a text put into a buffer. Rests on nothing but the choice by a test.
+-- Numbers as decimal text, and what is answered where a text is put. Rests on nothing but the choice by a test.
 use Prim.Native.Nat.{ℕ, zero, suc, _+_, _-_, _*_, _/_, _%_, _^_, _≤_}
 use mathlib.Core.List.{List, [], _∷_, _++_}
 use lib.Dec.{ltb}
 use lib.ListN.{length}
-use lib.Seq.{sets}
 use Rattle.words.specs.Pick.{pick}
 use Rattle.decimal.specs.declared.Put.{Put}
 use Rattle.decimal.specs.declared.Put.the-variants.{At, NoRoom}
@@ -31,10 +30,6 @@ value (c ∷ cs) = (c - 0x30) * 10 ^ length cs + value cs
 -- what is answered where a text is put at a place of a buffer of so many bytes: the place after it, where it has room
 unfoldable pub placed : ℕ → ℕ → List ℕ → Put
 placed room at text = pick (ltb room (at + length text)) NoRoom (At (at + length text))
-
--- the buffer after that: with the text at the place, where it has room
-unfoldable pub filled : List ℕ → ℕ → List ℕ → List ℕ
-filled buf at text = pick (ltb (length buf) (at + length text)) buf (sets buf at text)
 
 -- the place after a text lies in a buffer of so many bytes, or at its end
 abbrev pub placeInside : ℕ → Put → Type 0

@@ -5,7 +5,8 @@ ghost use mathlib.Core.List.{[], _∷_};
 ghost use Prim.Native.Nat.{_+_, _≤_};
 ghost use lib.ListN.{length};
 ghost use lib.Seq.{sets};
-ghost use Rattle.decimal.specs.Decimal.{decimal, placed, filled, placeInside};
+ghost use Rattle.decimal.specs.Decimal.{decimal, placed, placeInside};
+ghost use Rattle.stores.specs.Stores.{filled};
 
 // A text put into a buffer: the place after it, or no room and nothing written.
 pub enum Put {

@@ -118,8 +118,8 @@ fn key_and_value(block: &[u8], at: usize, role: Use, vectors: u32) -> Found
     value_field(bits, values::value_at(block, next, role, vectors))
 }
 
-// The field of a kind at a place.
-fn field_at(block: &[u8], at: usize, kind: Kind, people: u32) -> Found
+// The field of a kind at a place of its block, passed by its descriptor.
+pub fn field_at(block: &[u8], at: usize, kind: Kind, people: u32) -> Found
     ensures { λ r. ⌜ r ≡ fieldAt kind people at (drop at (now (block .entry))) ⌝ }
     ensures { λ r. ⌜ foundInside at (length (now (block .entry))) r ⌝ }
 {

@@ -7,7 +7,7 @@ use Rattle.words.specs.Pick.{pick}
 use Rattle.words.specs.Words.{outside}
 use Rattle.values.specs.Answers.{refusal}
 use Rattle.values.specs.declared.Refusal.{Refusal}
-use Rattle.fixed.specs.Layout.{chromAt, posAt, rlenAt, countsAt, peopleAt, qualAt, idAt, mostBytes, field, posWrong, rlenWrong, countsWrong, peopleWrong, qualWrong}
+use Rattle.fixed.specs.Layout.{indivAt, chromAt, posAt, rlenAt, countsAt, peopleAt, qualAt, idAt, mostBytes, field, posWrong, rlenWrong, countsWrong, peopleWrong, qualWrong}
 use Rattle.fixed.specs.declared.Facts.{Facts}
 use Rattle.fixed.specs.declared.Blocks.{Blocks}
 use Rattle.fixed.specs.declared.Blocks.the-variants.{Lent, Refused as NoBlocks}
@@ -30,7 +30,7 @@ blocksRefusal (Lent border whole) = refusal 0 0
 unfoldable pub blocks : List ℕ → Blocks
 blocks s =
     let border = 8 + field 0 s in
-    let whole = border + field 4 s in
+    let whole = border + field indivAt s in
     pick (ltb (length s) 8) (noBlocks 1 0)
     (pick (ltb mostBytes whole) (noBlocks 2 0)
     (pick (ltb (length s) whole) (noBlocks 1 0)

@@ -7,7 +7,10 @@ use lib.ListN.{drop}
 use Rattle.words.specs.Pick.{pick}
 use Rattle.words.specs.Words.{number}
 
--- the places of the fixed fields, and of what follows them
+-- the places of l_indiv, of the fixed fields, and of what follows them
+abbrev pub indivAt : ℕ
+indivAt = 4
+
 abbrev pub chromAt : ℕ
 chromAt = 8
 

@@ -41,9 +41,11 @@ pub enum Fixed {
     Refused(Refusal),
 }
 
-// The places of the fixed fields, of four bytes each.
-// What stands after them begins here, with ID.
+// What stands after the fixed fields begins here, with ID.
 pub const ID: usize = 32;
+
+// The places of l_indiv and of the fixed fields, of four bytes each.
+pub const INDIV: usize = 4;
 
 const CHROM: usize = 8;
 
@@ -53,7 +55,7 @@ const RLEN: usize = 16;
 
 const COUNTS: usize = 20;
 
-const PEOPLE: usize = 24;
+pub const PEOPLE: usize = 24;
 
 const QUAL: usize = 28;
 
@@ -76,7 +78,7 @@ pub fn blocks_of(s: &[u8]) -> Blocks
         });
     }
     let border = 8 + field_at(s, 0) as usize;
-    let length = border + field_at(s, 4) as usize;
+    let length = border + field_at(s, INDIV) as usize;
     if 16777216 < length {
         return Blocks::Refused(Refusal {
             number: 2,

@@ -9,7 +9,7 @@ use lib.ListN.{length, getD, set, drop, length-append, length-set}
 use lib.Seq.{sets, drop-cons}
 use borrow.Author.Tests.{le-ltb}
 use Rattle.words.proofs.Stores.{sets-append}
-use Rattle.decimal.specs.Decimal.{decimal, placed, filled}
+use Rattle.decimal.specs.Decimal.{decimal, placed}
 use Rattle.decimal.specs.declared.Put.the-variants.{At}
 use Rattle.frames.specs.Text.{spaced, line}
 
@@ -17,10 +17,6 @@ use Rattle.frames.specs.Text.{spaced, line}
 pub placed-room : (room at : ℕ) (text : List ℕ) → at + length text ≤ room → placed room at text ≡ At (at + length text)
 unfolding placed
 placed-room room at text h = rw (le-ltb _ _ h)
-
-pub filled-room : (buf : List ℕ) (at : ℕ) (text : List ℕ) → at + length text ≤ length buf → filled buf at text ≡ sets buf at text
-unfolding filled
-filled-room buf at text h = rw (le-ltb _ _ h)
 
 -- the numbers from one on: that one after a space, and then the others
 pub spaced-turn : (ns : List ℕ) (i : ℕ) → i < length ns → spaced (drop i ns) ≡ 0x20 ∷ (decimal (getD ns i 0) ++ spaced (drop (i + 1) ns))

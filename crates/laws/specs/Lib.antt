@@ -1,3 +1,4 @@
+pub mod Choosing
 pub mod Fetched
 pub mod Marked
 pub mod Sample

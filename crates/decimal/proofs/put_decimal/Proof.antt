@@ -3,7 +3,8 @@ use Prim.Native.Nat.{_+_, _<_, _≤_}
 use native.Mathlib.Omega.{arith}
 use lib.ListN.{length}
 use borrow.Author.Tests.{lt-ltb, le-ltb}
-use Rattle.decimal.specs.Decimal.{decimal, placed, filled}
+use Rattle.decimal.specs.Decimal.{decimal, placed}
+use Rattle.stores.specs.Stores.{filled}
 use borrow.Author.Needs.{needs}
 use Rattle.decimal.proofs.put_decimal.Statement.{statement}
 use Rattle.decimal.proofs.put_decimal.Tie as tie

@@ -9,7 +9,8 @@ use Rattle.decimal.specs.declared.Put.the-variants.{At, NoRoom}
 use Rattle.decimal.proofs.Decimal.{twenty}
 use native.Mathlib.Omega.{arith}
 use Rattle.frames.specs.Text.{spaced}
-use Rattle.frames.proofs.Texts.{placed-room, filled-room, spaced-turn, spaced-stored}
+use Rattle.stores.proofs.Room.{filled-room}
+use Rattle.frames.proofs.Texts.{placed-room, spaced-turn, spaced-stored}
 use borrow.Author.Needs.{needs}
 use Rattle.frames.proofs.put_numbers.Statement.{statement}
 use Rattle.frames.proofs.put_numbers.Tie as tie

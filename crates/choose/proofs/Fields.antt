@@ -1,0 +1,86 @@
+-- FORMAT fields passed one after the other: where each ends, and one turn of the walk for their size and for their chosen bytes.
+-- Rests on specs/Sizes, specs/Chosen, and on fetch for the field at the front of a list.
+use mathlib.Core.Path.{_≡_, refl}
+use mathlib.Core.List.{List, [], _++_}
+use mathlib.Core.Bool.{Bool, true, false}
+use Prim.Native.Nat.{ℕ, zero, suc, _+_, _-_, _*_, _<_, _≤_}
+use native.Mathlib.Omega.{arith}
+use native.Mathlib.Nat.{mul-assoc, mul-le-mul-right}
+use native.Mathlib.Numerals.{sub-one}
+use lib.Dec.{leb}
+use lib.ListN.{length, take, drop}
+use Rattle.words.specs.Pick.{pick}
+use Rattle.words.proofs.Places.{drop-on}
+use Rattle.types.specs.Rows.{widthOf}
+use Rattle.types.specs.declared.Use.{Use}
+use Rattle.types.specs.declared.Use.the-variants.{Key, Format}
+use Rattle.values.specs.Answers.{noValue, whole}
+use Rattle.values.specs.Values.{integer, described, withElements, present}
+use Rattle.values.specs.declared.Refusal.{Refusal}
+use Rattle.values.specs.declared.Integer.{Integer}
+use Rattle.values.specs.declared.Integer.the-variants.{One, Refused as NoInteger}
+use Rattle.values.specs.declared.Descriptor.{Descriptor}
+use Rattle.values.specs.declared.Descriptor.the-variants.{Typed, Refused as NoDescriptor}
+use Rattle.values.specs.declared.Value.{Value}
+use Rattle.values.specs.declared.Value.the-variants.{Present, Refused as NoValue}
+use Rattle.fetch.specs.Fetch.{valueField, afterKey, paired}
+use Rattle.fetch.specs.declared.Found.{Found}
+use Rattle.fetch.specs.declared.Found.the-variants.{Field, Refused}
+use Rattle.choose.specs.Choice.{chosenParts}
+use Rattle.choose.specs.Chosen.{chosenFields}
+use Rattle.choose.specs.Sizes.{fieldsSize}
+
+-- the elements of a value, and so of a field, end where so many vectors of its length do
+elements-stop : (vectors end : ℕ) (d : Descriptor) (key : ℕ) {key′ t n first stop : ℕ}
+    → valueField key (withElements vectors end d) ≡ Field key′ t n first stop → stop ≡ first + vectors * n * widthOf t
+elements-stop vectors end (NoDescriptor r) key h = cc
+elements-stop vectors end (Typed t n first) key h = by-room (leb (first + vectors * n * widthOf t) end) h
+  where
+    by-room : (b : Bool) {key′ t′ n′ first′ stop′ : ℕ}
+        → valueField key (pick b (whole t n first (first + vectors * n * widthOf t)) (noValue 3 end)) ≡ Field key′ t′ n′ first′ stop′
+        → stop′ ≡ first′ + vectors * n′ * widthOf t′
+    by-room true e = cc
+    by-room false e = cc
+
+pub paired-stop : (vectors : ℕ) (role : Use) (at : ℕ) (l : List ℕ) {key t n first stop : ℕ}
+    → paired vectors role at l ≡ Field key t n first stop → stop ≡ first + vectors * n * widthOf t
+unfolding paired present
+paired-stop vectors role at l h = by-key (integer Key at l) h
+  where
+    by-key : (i : Integer) {key t n first stop : ℕ} → afterKey vectors role at l i ≡ Field key t n first stop
+        → stop ≡ first + vectors * n * widthOf t
+    by-key (NoInteger r) e = cc
+    by-key (One key next) e = elements-stop vectors (next + length (drop (next - at) l)) (described role next (drop (next - at) l)) key e
+
+-- some people's parts are no more than everybody's
+pub kept-parts : (kept people n w : ℕ) → kept ≤ people → kept * (n * w) ≤ people * n * w
+kept-parts kept people n w h = rw (mul-assoc people n w) (mul-le-mul-right (n * w) h)
+
+-- the next field, where some are left: its size, and its chosen bytes
+pub size-turn : (people kept n at : ℕ) (s : List ℕ) {key t len first stop : ℕ} → 0 < n
+    → paired people Format at (drop at s) ≡ Field key t len first stop → at ≤ stop
+    → fieldsSize people kept n at (drop at s) ≡ first - at + kept * (len * widthOf t) + fieldsSize people kept (n - 1) stop (drop stop s)
+unfolding fieldsSize
+size-turn people kept zero at s z h r = absurd (omega arith)
+size-turn people kept (suc n) at s {stop = stop} z h r = rw (h, sub-one, drop-on s at stop r)
+
+pub fields-turn : (people : ℕ) (cs : List ℕ) (n at : ℕ) (s : List ℕ) {key t len first stop : ℕ} → 0 < n
+    → paired people Format at (drop at s) ≡ Field key t len first stop → at ≤ first → first ≤ stop
+    → chosenFields people cs n at (drop at s)
+    ≡ take (first - at) (drop at s) ++ (chosenParts (len * widthOf t) cs (drop first s) ++ chosenFields people cs (n - 1) stop (drop stop s))
+unfolding chosenFields
+fields-turn people cs zero at s z h r e = absurd (omega arith)
+fields-turn people cs (suc n) at s {first = first} {stop = stop} z h r e = rw (h, sub-one, drop-on s at first r, drop-on s at stop (omega arith))
+
+-- no field is there
+pub size-none : (people kept n at : ℕ) (s : List ℕ) {r : Refusal} → 0 < n → paired people Format at (drop at s) ≡ Refused r
+    → fieldsSize people kept n at (drop at s) ≡ 0
+unfolding fieldsSize
+size-none people kept zero at s z h = absurd (omega arith)
+size-none people kept (suc n) at s z h = rw h
+
+pub fields-none : (people : ℕ) (cs : List ℕ) (n at : ℕ) (s : List ℕ) {r : Refusal} → 0 < n → paired people Format at (drop at s) ≡ Refused r
+    → chosenFields people cs n at (drop at s) ≡ []
+unfolding chosenFields
+fields-none people cs zero at s z h = absurd (omega arith)
+fields-none people cs (suc n) at s z h = rw h

@@ -1,0 +1,4 @@
+pub mod Choice
+pub mod Fields
+pub mod Stretches
+pub mod Written

@@ -1,0 +1,61 @@
+-- What is stored field by field is the chosen fields stored. Rests on specs/Chosen and on stores.
+use mathlib.Core.Path.{_≡_, _∙_, refl, sym, ap}
+use mathlib.Core.List.{List, [], _∷_, _++_, append-assoc}
+use mathlib.Core.Bool.{true}
+use Prim.Native.Nat.{ℕ, zero, suc, _+_, _-_, _*_, _<_, _≤_}
+use native.Mathlib.Omega.{arith}
+use native.Mathlib.Nat.{mul-assoc}
+use lib.ListN.{length, take, drop, length-append, length-drop}
+use lib.Seq.{sets}
+use Rattle.words.proofs.Places.{length-part}
+use Rattle.words.proofs.Stores.{sets-append}
+use Rattle.types.specs.Rows.{widthOf}
+use Rattle.types.specs.declared.Use.the-variants.{Format}
+use Rattle.fetch.specs.Fetch.{paired}
+use Rattle.fetch.specs.declared.Found.the-variants.{Field}
+use Rattle.stores.specs.Stores.{filled}
+use Rattle.stores.proofs.Room.{filled-room}
+use Rattle.choose.specs.Choice.{ascending, chosenParts}
+use Rattle.choose.specs.Chosen.{keptFormats, chosenFields}
+use Rattle.choose.proofs.Choice.{length-chosenParts}
+use Rattle.choose.proofs.Fields.{paired-stop, fields-turn}
+
+-- of nobody no field is kept, of somebody all are
+pub kept-none : (cs : List ℕ) (formats : ℕ) → length cs ≡ 0 → keptFormats cs formats ≡ 0
+kept-none [] formats h = refl
+kept-none (c ∷ cs) formats h = absurd (omega arith)
+
+pub kept-some : (cs : List ℕ) (formats : ℕ) → (length cs ≡ 0 → ⊥) → keptFormats cs formats ≡ formats
+kept-some [] formats h = absurd (h refl)
+kept-some (c ∷ cs) formats h = refl
+
+-- a field's key and descriptor, and then the parts
+pub head-stored : (buf block parts : List ℕ) (o at place : ℕ) → at ≤ place → place ≤ length block → o + (place - at) ≤ length buf
+    → sets (filled buf o (take (place - at) (drop at block))) (o + (place - at)) parts ≡ sets buf o (take (place - at) (drop at block) ++ parts)
+head-stored buf block parts o at place h e r =
+    let len : length (take (place - at) (drop at block)) ≡ place - at = length-part block at place h e in
+    let f = filled-room buf o (take (place - at) (drop at block)) (rw len r) in
+    rw (f, sets-append (take (place - at) (drop at block)) parts buf o, len)
+
+-- everybody's parts end where the field does
+pub parts-stop : (people n at : ℕ) (l : List ℕ) {key t first stop : ℕ} → paired people Format at l ≡ Field key t n first stop
+    → first + people * (n * widthOf t) ≡ stop
+parts-stop people n at l {t = t} h = let e = paired-stop people Format at l h in let q = mul-assoc people n (widthOf t) in omega arith
+
+-- the next field stored, and then the others
+pub field-stored : (buf : List ℕ) (o people : ℕ) (cs : List ℕ) (n at : ℕ) (s : List ℕ) {key t len first stop : ℕ} → ascending people cs ≡ true → 0 < n
+    → paired people Format at (drop at s) ≡ Field key t len first stop → at ≤ first → first ≤ stop → stop ≤ length s
+    → sets buf o (chosenFields people cs n at (drop at s))
+    ≡ sets (sets buf o (take (first - at) (drop at s) ++ chosenParts (len * widthOf t) cs (drop first s))) (o + (first - at + length cs * (len * widthOf t)))
+    (chosenFields people cs (n - 1) stop (drop stop s))
+field-stored buf o people cs n at s {t = t} {len = len} {first = first} {stop = stop} asc z h e r q =
+    let head = take (first - at) (drop at s) in
+    let parts = chosenParts (len * widthOf t) cs (drop first s) in
+    let rest = chosenFields people cs (n - 1) stop (drop stop s) in
+    let st = parts-stop people len at (drop at s) h in
+    let room : people * (len * widthOf t) ≤ length (drop first s) = rw length-drop (omega arith) in
+    let size : length (head ++ parts) ≡ first - at + length cs * (len * widthOf t) =
+    length-append head parts ∙ rw (length-part s at first e (omega arith), length-chosenParts (len * widthOf t) 0 people cs (drop first s) asc room) in
+    let turn = fields-turn people cs n at s z h e r in
+    ap (sets buf o) (turn ∙ sym (append-assoc head parts rest)) ∙ sets-append (head ++ parts) rest buf o
+    ∙ ap (λ (k : ℕ). sets (sets buf o (head ++ parts)) (o + k) rest) size

@@ -1,0 +1,4 @@
+pub mod Choice
+pub mod Chosen
+pub mod Choose
+pub mod Sizes
