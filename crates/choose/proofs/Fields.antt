@@ -8,7 +8,8 @@ use native.Mathlib.Omega.{arith}
 use native.Mathlib.Nat.{mul-assoc, mul-le-mul-right}
 use native.Mathlib.Numerals.{sub-one}
 use lib.Dec.{leb}
-use lib.ListN.{length, take, drop}
+use lib.ListN.{length, take, drop, length-append, length-drop}
+use lib.Seq.{length-take-le}
 use Rattle.words.specs.Pick.{pick}
 use Rattle.words.proofs.Places.{drop-on}
 use Rattle.types.specs.Rows.{widthOf}
@@ -26,9 +27,11 @@ use Rattle.values.specs.declared.Value.the-variants.{Present, Refused as NoValu
 use Rattle.fetch.specs.Fetch.{valueField, afterKey, paired}
 use Rattle.fetch.specs.declared.Found.{Found}
 use Rattle.fetch.specs.declared.Found.the-variants.{Field, Refused}
-use Rattle.choose.specs.Choice.{chosenParts}
-use Rattle.choose.specs.Chosen.{chosenFields}
-use Rattle.choose.specs.Sizes.{fieldsSize}
+use Rattle.fetch.proofs.Inside.{paired-inside}
+use Rattle.choose.specs.Choice.{ascending, chosenParts}
+use Rattle.choose.specs.Chosen.{chosenField, chosenFields}
+use Rattle.choose.specs.Sizes.{fieldSize, fieldsSize}
+use Rattle.choose.proofs.Choice.{length-chosenParts}
 
 -- the elements of a value, and so of a field, end where so many vectors of its length do
 elements-stop : (vectors end : ℕ) (d : Descriptor) (key : ℕ) {key′ t n first stop : ℕ}
@@ -84,3 +87,23 @@ pub fields-none : (people : ℕ) (cs : List ℕ) (n at : ℕ) (s : List ℕ) {r 
 unfolding chosenFields
 fields-none people cs zero at s z h = absurd (omega arith)
 fields-none people cs (suc n) at s z h = rw h
+
+-- the chosen fields are as long as their size says
+pub length-chosenFields : (people : ℕ) (cs : List ℕ) (n at : ℕ) (l : List ℕ) → ascending people cs ≡ true
+    → length (chosenFields people cs n at l) ≡ fieldsSize people (length cs) n at l
+unfolding chosenFields fieldsSize
+length-chosenFields people cs zero at l h = refl
+length-chosenFields people cs (suc n) at l h = by-field (paired people Format at l) refl (λ q m. length-chosenFields people cs n q m h)
+  where
+    by-field : (f : Found) → paired people Format at l ≡ f
+        → ((q : ℕ) (m : List ℕ) → length (chosenFields people cs n q m) ≡ fieldsSize people (length cs) n q m)
+        → length (chosenField cs at l (chosenFields people cs n) f) ≡ fieldSize (length cs) at l (fieldsSize people (length cs) n) f
+    by-field (Refused r) e on = refl
+    by-field (Field key t len first stop) e on =
+        let i = rw e at (paired-inside people Format at l) in
+        let st = paired-stop people Format at l e in
+        let q = mul-assoc people len (widthOf t) in
+        let room : people * (len * widthOf t) ≤ length (drop (first - at) l) = rw length-drop (omega (arith, i)) in
+        let head : length (take (first - at) l) ≡ first - at = length-take-le (first - at) l (omega (arith, i)) in
+        rw (length-append, length-append, head, length-chosenParts (len * widthOf t) 0 people cs (drop (first - at) l) h room, on stop (drop (stop - at) l))
+        (omega arith)

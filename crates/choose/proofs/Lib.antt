@@ -1,4 +1,5 @@
 pub mod Choice
 pub mod Fields
+pub mod People
 pub mod Stretches
 pub mod Written

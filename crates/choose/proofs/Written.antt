@@ -1,24 +1,30 @@
--- What is stored field by field is the chosen fields stored. Rests on specs/Chosen and on stores.
+-- What is stored piece by piece is the chosen fields, and the chosen record, stored. Rests on specs/Chosen and on stores.
 use mathlib.Core.Path.{_≡_, _∙_, refl, sym, ap}
 use mathlib.Core.List.{List, [], _∷_, _++_, append-assoc}
 use mathlib.Core.Bool.{true}
 use Prim.Native.Nat.{ℕ, zero, suc, _+_, _-_, _*_, _<_, _≤_}
 use native.Mathlib.Omega.{arith}
-use native.Mathlib.Nat.{mul-assoc}
+use native.Mathlib.Nat.{mul-assoc, zero-add}
 use lib.ListN.{length, take, drop, length-append, length-drop}
-use lib.Seq.{sets}
+use lib.Seq.{sets, length-sets, length-take-le}
+use Rattle.words.specs.Words.{bytes}
+use Rattle.words.proofs.Words.{length-bytes}
 use Rattle.words.proofs.Places.{length-part}
 use Rattle.words.proofs.Stores.{sets-append}
 use Rattle.types.specs.Rows.{widthOf}
 use Rattle.types.specs.declared.Use.the-variants.{Format}
+use Rattle.fixed.specs.Layout.{indivAt, peopleAt, idAt}
+use Rattle.fixed.specs.declared.Site.{Site}
 use Rattle.fetch.specs.Fetch.{paired}
 use Rattle.fetch.specs.declared.Found.the-variants.{Field}
 use Rattle.stores.specs.Stores.{filled}
+use Rattle.stores.proofs.Inside.{sets-inside}
 use Rattle.stores.proofs.Room.{filled-room}
 use Rattle.choose.specs.Choice.{ascending, chosenParts}
-use Rattle.choose.specs.Chosen.{keptFormats, chosenFields}
+use Rattle.choose.specs.Chosen.{keptFormats, chosenFields, chosenBlock, chosenSite, chosenRecord}
+use Rattle.choose.specs.Sizes.{fieldsSize}
 use Rattle.choose.proofs.Choice.{length-chosenParts}
-use Rattle.choose.proofs.Fields.{paired-stop, fields-turn}
+use Rattle.choose.proofs.Fields.{paired-stop, fields-turn, length-chosenFields}
 
 -- of nobody no field is kept, of somebody all are
 pub kept-none : (cs : List ℕ) (formats : ℕ) → length cs ≡ 0 → keptFormats cs formats ≡ 0
@@ -59,3 +65,45 @@ field-stored buf o people cs n at s {t = t} {len = len} {first = first} {stop = 
     let turn = fields-turn people cs n at s z h e r in
     ap (sets buf o) (turn ∙ sym (append-assoc head parts rest)) ∙ sets-append (head ++ parts) rest buf o
     ∙ ap (λ (k : ℕ). sets (sets buf o (head ++ parts)) (o + k) rest) size
+
+-- the site block, the two numbers in it and the genotype block, stored one after the other, are the chosen record stored
+pub record-stored : (buf s : List ℕ) (t : Site) (cs : List ℕ) → idAt ≤ t .border → t .border ≤ length s
+    → t .border + length (chosenBlock t cs s) ≤ length buf
+    → sets (filled (filled (filled buf 0 (take (t .border) s)) indivAt (bytes 4 (length (chosenBlock t cs s)))) peopleAt (bytes 4 (keptFormats cs (t .formats) * 16777216 + length cs)))
+    (t .border) (chosenBlock t cs s)
+    ≡ sets buf 0 (chosenRecord t cs s)
+unfolding chosenRecord chosenSite
+record-stored buf s t cs h e r =
+    let front = take (t .border) s in
+    let block = chosenBlock t cs s in
+    let indiv = bytes 4 (length block) in
+    let people = bytes 4 (keptFormats cs (t .formats) * 16777216 + length cs) in
+    let one = sets front indivAt indiv in
+    let two = sets one peopleAt people in
+    let len : length front ≡ t .border = length-take-le (t .border) s e in
+    let len-one : length one ≡ t .border = length-sets front indivAt indiv ∙ len in
+    let len-two : length two ≡ t .border = length-sets one peopleAt people ∙ len-one in
+    let b₁ : filled buf 0 front ≡ sets buf 0 front = filled-room buf 0 front (rw len (omega arith)) in
+    let b₂ : filled (sets buf 0 front) indivAt indiv ≡ sets buf 0 one =
+    filled-room (sets buf 0 front) indivAt indiv (rw (length-sets, length-bytes) (omega arith))
+    ∙ sets-inside buf front indivAt indiv (rw len (omega arith)) (rw (len, length-bytes) (omega arith)) in
+    let b₃ : filled (sets buf 0 one) peopleAt people ≡ sets buf 0 two =
+    filled-room (sets buf 0 one) peopleAt people (rw (length-sets, length-bytes) (omega arith))
+    ∙ sets-inside buf one peopleAt people (rw len-one (omega arith)) (rw (len-one, length-bytes) (omega arith)) in
+    let last = sets-append two block buf 0 in
+    ap (λ (b : List ℕ). sets (filled (filled b indivAt indiv) peopleAt people) (t .border) block) b₁
+    ∙ ap (λ (b : List ℕ). sets (filled b peopleAt people) (t .border) block) b₂
+    ∙ ap (λ (b : List ℕ). sets b (t .border) block) b₃
+    ∙ sym (last ∙ ap (λ (k : ℕ). sets (sets buf 0 two) k block) (zero-add (length two) ∙ len-two))
+
+-- the size that is known before is that of the genotype block
+pub size-block : (t : Site) (cs s : List ℕ) → ascending (t .people) cs ≡ true
+    → length (chosenBlock t cs s)
+    ≡ fieldsSize (t .people) (length cs) (keptFormats cs (t .formats)) (t .border) (drop (t .border) (take (t .length) s))
+unfolding chosenBlock
+size-block t cs s h = length-chosenFields (t .people) cs (keptFormats cs (t .formats)) (t .border) (drop (t .border) (take (t .length) s)) h
+
+pub length-chosenRecord : (t : Site) (cs s : List ℕ) → t .border ≤ length s
+    → length (chosenRecord t cs s) ≡ t .border + length (chosenBlock t cs s)
+unfolding chosenRecord chosenSite
+length-chosenRecord t cs s e = rw (length-append, length-sets, length-sets, length-take-le (t .border) s e)

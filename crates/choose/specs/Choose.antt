@@ -1,6 +1,6 @@
 -- Choosing: the answer, and the lent buffer afterwards. Reading's refusals come first, then 14 for a choice that isn't ascending or in
 -- range, then 13 for a buffer too short. Rests on reading and on the chosen record.
-use Prim.Native.Nat.{ℕ}
+use Prim.Native.Nat.{ℕ, _≤_}
 use mathlib.Core.List.{List}
 use lib.Dec.{ltb}
 use lib.ListN.{length}
@@ -38,3 +38,8 @@ bufferOf cs buf s (Accepted t g) = pick (ascending (t .people) cs) (stored buf (
 
 unfoldable pub afterChoosing : Facts → List ℕ → List ℕ → List ℕ → List ℕ
 afterChoosing f cs buf s = bufferOf cs buf s (reading f s)
+
+-- the chosen record lies in its buffer
+abbrev pub chosenInside : ℕ → Choosing → Type 0
+chosenInside end (Refused r) = Unit {0}
+chosenInside end (Chosen n) = n ≤ end

@@ -7,9 +7,10 @@ ghost use Prim.Native.Nat.{_+_, _-_, _*_, _^_, _<_, _≤_};
 ghost use lib.ListN.{drop, getD, length, take};
 ghost use lib.Seq.{sets};
 ghost use Rattle.types.specs.Rows.{widthOf};
+ghost use Rattle.fixed.specs.Layout.{idAt};
 ghost use Rattle.choose.specs.Choice.{ascending, chosenParts};
-ghost use Rattle.choose.specs.Chosen.{chosenFields, keptFormats, chosenRecord};
-ghost use Rattle.choose.specs.Choose.{choosing, afterChoosing};
+ghost use Rattle.choose.specs.Chosen.{chosenFields, keptFormats, chosenBlock, chosenRecord};
+ghost use Rattle.choose.specs.Choose.{choosing, afterChoosing, chosenInside};
 ghost use Rattle.choose.specs.Sizes.{fieldsSize};
 use fetch::Found;
 use fetch::Kind;
@@ -195,4 +196,63 @@ fn kept_formats(choice: &[u32], formats: u8) -> u8
         return 0;
     }
     formats
+}
+
+// Stores the chosen record at the buffer's start: the site block, l_indiv and the people count changed, and the genotype block, which
+// has so many bytes.
+fn put_record(buf: &mut [u8], s: &[u8], site: Site, choice: &[u32], size: usize)
+    requires { ⌜ (ascending (site .people) (now choice) ≡ true) × (site .people < 16777216) × (idAt ≤ site .border) × (site .border ≤ site .length) × (site .length ≤ length (now s)) × (size < 2 ^ 32) × (size ≡ length (chosenBlock site (now choice) (now s))) × (site .border + size ≤ length (now buf)) ⌝ }
+    ensures { λ _. ⌜ now (buf .exit) ≡ sets (now (buf .entry)) 0 (chosenRecord site (now (choice .entry)) (now (s .entry))) ⌝ }
+{
+    let border = site.border;
+    let length = site.length;
+    let count = kept_formats(choice, site.formats);
+    stores::put(buf, 0, &s[..border]);
+    stores::put_number(buf, fixed::INDIV, 4, size as u32);
+    stores::put_number(
+        buf,
+        fixed::PEOPLE,
+        4,
+        count as u32 * 16777216 + choice.len() as u32,
+    );
+    put_fields(
+        buf,
+        border,
+        &s[..length],
+        border,
+        site.people,
+        choice,
+        count,
+    );
+}
+
+// The record of the chosen people at the buffer's start, and its length; a refusal writes nothing.
+pub fn choose(s: &[u8], facts: Facts, choice: &[u32], buf: &mut [u8]) -> Choosing
+    ensures told { λ r. ⌜ r ≡ choosing facts (now (choice .entry)) (length (now (buf .entry))) (now (s .entry)) ⌝ }
+    ensures inside { λ r. ⌜ chosenInside (length (now (buf .entry))) r ⌝ }
+    ensures written { λ _. ⌜ now (buf .exit) ≡ afterChoosing facts (now (choice .entry)) (now (buf .entry)) (now (s .entry)) ⌝ }
+{
+    let r = record::read(s, facts);
+    let Reading::Accepted { site, gt: _ } = r else {
+        return Choosing::Refused(record::reading_refusal(r));
+    };
+    let people = site.people;
+    if is_ascending(choice, people) {
+        let border = site.border;
+        let length = site.length;
+        let count = kept_formats(choice, site.formats);
+        let size = fields_size(&s[..length], border, people, choice.len(), count);
+        if buf.len() < border + size {
+            return Choosing::Refused(Refusal {
+                number: 13,
+                place: 0,
+            });
+        }
+        put_record(buf, s, site, choice, size);
+        return Choosing::Chosen(border + size);
+    }
+    Choosing::Refused(Refusal {
+        number: 14,
+        place: 0,
+    })
 }

@@ -98,7 +98,7 @@ alone-inside : (role : Use) (at : ℕ) (l : List ℕ) → foundInside at (at + l
 unfolding alone
 alone-inside role at l = value-found 0 (present 1 role at l) at at (at + length l) (omega arith) (present-inside 1 role at l)
 
-paired-inside : (vectors : ℕ) (role : Use) (at : ℕ) (l : List ℕ) → foundInside at (at + length l) (paired vectors role at l)
+pub paired-inside : (vectors : ℕ) (role : Use) (at : ℕ) (l : List ℕ) → foundInside at (at + length l) (paired vectors role at l)
 unfolding paired
 paired-inside vectors role at l = key-inside vectors role at l (integer Key at l) (integer-inside Key at l)
 

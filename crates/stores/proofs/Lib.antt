@@ -1,2 +1,3 @@
+pub mod Inside
 pub mod Room
 pub mod Turns
