@@ -7,13 +7,15 @@ use Rattle.types.specs.Elements.{marked, kind, widened, shown, narrowest}
 use Rattle.values.specs.Values.{integer, trueLength, described, present}
 use Rattle.vectors.specs.Vectors.{numbers, vector, vectors, judged}
 use Rattle.vectors.specs.Sound.{highest, codeMost}
+use Rattle.fixed.specs.Layout.{indivAt, field}
 use Rattle.elements.specs.Elements.{codeCall, callAt}
 use Rattle.tally.specs.declared.Tallied.{Tallied}
 use Rattle.laws.specs.Marked.{Marked}
+use Rattle.laws.proofs.Cut.{sample-cut}
 use Rattle.laws.proofs.Sample.{sample-read}
 
 pub examples : Marked
-unfolding le number rowOf widthOf marked kind widened shown narrowest integer trueLength described present numbers vector vectors judged highest codeMost codeCall callAt
+unfolding le number rowOf widthOf marked kind widened shown narrowest integer trueLength described present numbers vector vectors judged highest codeMost codeCall callAt field
 examples =
     record {
       m1 = λ rest. refl;
@@ -39,4 +41,7 @@ examples =
       m10-high = refl;
       m10-negative = refl;
       m11 = ap (λ (t : Tallied). take 2 (drop 1 (t .calls .counts))) (sample-read .tally);
+      m12-indiv = ap (field indivAt) (sample-cut .bytes);
+      m12-gt = sample-cut .gt;
+      m12-tally = ap (λ (t : Tallied). take 2 (drop 1 (t .calls .counts))) (sample-cut .tally);
     }

@@ -1,5 +1,6 @@
--- Demand 3: choosing people obeys arithmetic. Each law is of any accepted record and any choice that ascends and is in range; the
--- chosen record is `chosenRecord`, read under the header's facts for that number of people. Rests on choose, chosen and the tally.
+-- Demand 3: choosing people obeys arithmetic. Each law is of any accepted record, a list of bytes as every slice is, and any choice that
+-- ascends and is in range; the chosen record is `chosenRecord`, read under the header's facts for that number of people. Rests on choose,
+-- chosen and the tally.
 use Prim.Native.Nat.{ℕ, _≤_}
 use mathlib.Core.Path.{_≡_}
 use mathlib.Core.List.{List}
@@ -21,8 +22,9 @@ use Rattle.choose.specs.Choose.{choosing, afterChoosing}
 use Rattle.chosen.specs.Releases.{forPeople, releasedSite, released, everybody, composed}
 use Rattle.chosen.specs.Divisions.{Division}
 
--- a record that is accepted, and a choice of its people
+-- bytes that begin with a record that is accepted, and a choice of its people
 pub record Choice (f : Facts) (s : List ℕ) (t : Site) (g : Gt) (cs : List ℕ) : Type 0 where
+  pub bytes : Bytes s
   pub read : reading f s ≡ Accepted t g
   pub ascends : ascending (t .people) cs ≡ true
 
@@ -59,7 +61,7 @@ pub record Choosing : Type 0 where
   pub answers : (f : Facts) (s : List ℕ) (t : Site) (g : Gt) (cs ds : List ℕ) (room : ℕ) → Choice f s t g cs → ascending (length cs) ds ≡ true
       → choosing (forPeople (length cs) f) ds room (chosenRecord t cs s) ≡ choosing f (composed cs ds) room s
   -- with at most 64 alleles, for any division of the people the two tallies add up, counter by counter, to the whole record's
-  pub tallies : (f : Facts) (s : List ℕ) (t : Site) (g : Gt) (cs ds : List ℕ) → reading f s ≡ Accepted t g → t .alleles ≤ 64
+  pub tallies : (f : Facts) (s : List ℕ) (t : Site) (g : Gt) (cs ds : List ℕ) → Bytes s → reading f s ≡ Accepted t g → t .alleles ≤ 64
       → Division (t .people) cs ds
       → AddUp f s (forPeople (length cs) f) (chosenRecord t cs s) (forPeople (length ds) f) (chosenRecord t ds s)
   -- after the function, a buffer that has room begins with the chosen record

@@ -1,4 +1,4 @@
--- 01's marked examples, one statement with the fields of each. Rests on the definitions of types, values and vectors.
+-- 01's marked examples, M1 to M12, one statement with the fields of each. Rests on the definitions of types, values and vectors, and on the sample record.
 use mathlib.Core.Path.{_≡_}
 use mathlib.Core.Bool.{true}
 use mathlib.Core.List.{List, [], _∷_}
@@ -17,6 +17,11 @@ use Rattle.vectors.specs.declared.Judged.the-variants.{Sound}
 use Rattle.elements.specs.Elements.{callAt}
 use Rattle.elements.specs.declared.Call.the-variants.{Allele}
 use Rattle.tally.specs.Tally.{tallied}
+use Rattle.fixed.specs.Layout.{indivAt, field}
+use Rattle.fetch.specs.Fetch.{fetched}
+use Rattle.fetch.specs.declared.Kind.the-variants.{Format}
+use Rattle.chosen.specs.Releases.{forPeople}
+use Rattle.laws.specs.Cut.{second}
 use Rattle.laws.specs.Sample.{facts, sample}
 
 -- no plain element is too large
@@ -59,3 +64,7 @@ pub record Marked : Type 0 where
   pub m10-negative : judged (mostOf Gt 2 1) 1 1 (0xFF ∷ []) ≡ unsound 10 0
   -- M11 the sample record tallies 2 and 1: the calls of allele 0 and of allele 1
   pub m11 : take 2 (drop 1 (tallied facts sample .calls .counts)) ≡ 2 ∷ 1 ∷ []
+  -- M12 choosing person 1 of it leaves l_indiv 5, GT `04 81`, and a tally of 0 and 1
+  pub m12-indiv : field indivAt second ≡ 5
+  pub m12-gt : fetched (forPeople 1 facts) Format 0 second ≡ 0x04 ∷ 0x81 ∷ []
+  pub m12-tally : take 2 (drop 1 (tallied (forPeople 1 facts) second .calls .counts)) ≡ 0 ∷ 1 ∷ []

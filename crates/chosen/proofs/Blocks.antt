@@ -1,0 +1,305 @@
+-- A sound genotype block of everybody gives a sound block of the chosen people, with GT at its place there. Rests on proofs/Fronts,
+-- proofs/Fields and the definitions of genotypes.
+use mathlib.Core.Path.{_≡_, refl, sym, _∙_, ap}
+use mathlib.Core.List.{List, [], _∷_, _++_, append-assoc}
+use mathlib.Core.Bool.{Bool, true, false}
+use Prim.Native.Nat.{ℕ, zero, suc, _+_, _-_, _*_, _≤_}
+use native.Mathlib.Omega.{arith}
+use native.Mathlib.Nat.{mul-assoc, mul-zero, zero-mul, mul-le-mul-right}
+use lib.Dec.{eqb}
+use lib.ListN.{length, take, drop, length-append, length-drop}
+use lib.Seq.{length-take-le, take-at, drop-at}
+use Rattle.words.specs.Lists.{among}
+use Rattle.words.specs.Pick.{pick}
+use Rattle.words.specs.Words.{outside}
+use Rattle.words.proofs.Places.{drop-on}
+use Rattle.types.specs.Rows.{widthOf}
+use Rattle.types.specs.declared.Use.the-variants.{Key, Format}
+use Rattle.values.specs.Answers.{noInteger, one, integerInside}
+use Rattle.values.specs.Values.{integer, inDictionary, keyed}
+use Rattle.values.specs.declared.Integer.{Integer}
+use Rattle.values.specs.declared.Integer.the-variants.{One, Refused as NoInteger}
+use Rattle.values.specs.declared.Value.{Value}
+use Rattle.values.specs.declared.Value.the-variants.{Present, Refused as NoValue}
+use Rattle.vectors.specs.Sound.{sound}
+use Rattle.genotypes.specs.Formats.{formats, afterKey, afterValue, noGenotypes, roleOf, gtNow, gtAt, noGt, Rest}
+use Rattle.genotypes.specs.declared.Gt.{Gt}
+use Rattle.genotypes.specs.declared.Genotypes.the-variants.{Sound}
+use Rattle.fetch.specs.Fetch.{paired}
+use Rattle.fetch.specs.declared.Found.the-variants.{Field}
+use Rattle.fetch.proofs.Inside.{keyed-inside, drop-past}
+use Rattle.fetch.proofs.FormatFields.{format-there}
+use Rattle.choose.specs.Choice.{ascending, chosenParts}
+use Rattle.choose.specs.Chosen.{chosenFields}
+use Rattle.choose.proofs.Choice.{length-ascending}
+use Rattle.chosen.proofs.Fronts.{keyed-front, present-typed, take-past}
+use Rattle.chosen.proofs.Judging.{chosenParts-take}
+use Rattle.chosen.proofs.Fields.{length-chosen, sound-chosenParts}
+
+-- a key in the dictionary is an integer
+keyed-integer : (strings at : ℕ) (l : List ℕ) (x next : ℕ) → keyed strings at l ≡ One x next → integer Key at l ≡ One x next
+unfolding keyed
+keyed-integer strings at l x next h = by-integer (integer Key at l) h
+  where
+    by-test : (y q : ℕ) (a : Bool) → pick a (noInteger 8 (at + 1)) (one y q) ≡ One x next → One y q ≡ One x next
+    by-test y q true e = cc
+    by-test y q false e = e
+
+    by-integer : (i : Integer) → inDictionary strings at i ≡ One x next → i ≡ One x next
+    by-integer (NoInteger r) e = cc
+    by-integer (One y q) e = by-test y q (outside strings y) e
+
+-- a FORMAT field that is judged sound before the rest of its block: its key, its value, and what follows them
+pub record JudgedField (strings people gt alleles n : ℕ) (earlier : List ℕ) (known : Gt) (at : ℕ) (l : List ℕ) (g : Gt) : Type 0 where
+  pub key : ℕ
+  pub next : ℕ
+  pub code : ℕ
+  pub len : ℕ
+  pub first : ℕ
+  pub stop : ℕ
+  pub number : keyed strings at l ≡ One key next
+  pub once : among key earlier ≡ false
+  pub value : sound people alleles (roleOf key gt) next (drop (next - at) l) ≡ Present code len first stop
+  pub field : paired people Format at l ≡ Field key code len first stop
+  pub ends : stop ≡ first + people * len * widthOf code
+  pub keyLater : at ≤ next
+  pub later : next ≤ first
+  pub inside : stop ≤ at + length l
+  pub on : formats strings people gt alleles n (earlier ++ (key ∷ [])) (gtNow key gt (gtAt code len first) known) stop (drop (stop - at) l) ≡ Sound g
+
+-- the first field of a block that is sound
+pub formats-field : (strings people gt alleles n : ℕ) (earlier : List ℕ) (known : Gt) (at : ℕ) (l : List ℕ) {g : Gt}
+    → formats strings people gt alleles (suc n) earlier known at l ≡ Sound g → JudgedField strings people gt alleles n earlier known at l g
+unfolding formats paired
+formats-field strings people gt alleles n earlier known at l {g} h = by-key (keyed strings at l) refl (keyed-inside strings at l) h
+  where
+    rest : Rest
+    rest = formats strings people gt alleles n
+
+    by-value : (key next : ℕ) (c : Bool) (v : Value) → keyed strings at l ≡ One key next → at ≤ next → next ≤ at + length l
+        → among key earlier ≡ c → sound people alleles (roleOf key gt) next (drop (next - at) l) ≡ v
+        → pick c (noGenotypes 11 (at + 1)) (afterValue key gt earlier known next (drop (next - at) l) rest v) ≡ Sound g
+        → JudgedField strings people gt alleles n earlier known at l g
+    by-value key next true v p a b q s e = let z : _≡_ {A = ℕ} 0 1 = cc in absurd (omega arith)
+    by-value key next false (NoValue r) p a b q s e = let z : _≡_ {A = ℕ} 0 1 = cc in absurd (omega arith)
+    by-value key next false (Present t k first stop) p a b q s e =
+        let there = format-there people alleles key gt next (drop (next - at) l) t k first stop s in
+        let i = present-typed people Format next (drop (next - at) l) t k first stop there in
+        let x = i .ends in
+        let y = i .later in
+        let z = rw (length-drop (next - at) l) at (i .inside) in
+        record {
+          key = key;
+          next = next;
+          code = t;
+          len = k;
+          first = first;
+          stop = stop;
+          number = p;
+          once = q;
+          value = s;
+          field = rw (keyed-integer strings at l key next p, there);
+          ends = x;
+          keyLater = a;
+          later = y;
+          inside = omega arith;
+          on = rw (drop-past l at next stop a (omega arith)) at e;
+        }
+
+    by-key : (i : Integer) → keyed strings at l ≡ i → integerInside at (at + length l) i → afterKey people gt alleles earlier known at l rest i ≡ Sound g
+        → JudgedField strings people gt alleles n earlier known at l g
+    by-key (NoInteger r) p k e = let z : _≡_ {A = ℕ} 0 1 = cc in absurd (omega arith)
+    by-key (One key next) p k e =
+        by-value key next (among key earlier) (sound people alleles (roleOf key gt) next (drop (next - at) l)) p (omega arith) (omega arith) refl refl e
+
+-- the chosen people's elements of such a field are there
+length-judged : (strings people gt alleles n : ℕ) (earlier : List ℕ) (known : Gt) (at : ℕ) (l cs : List ℕ) {g : Gt}
+    → ascending people cs ≡ true → (j : JudgedField strings people gt alleles n earlier known at l g)
+    → length (chosenParts (j .len * widthOf (j .code)) cs (drop (j .first - at) l)) ≡ length cs * j .len * widthOf (j .code)
+length-judged strings people gt alleles n earlier known at l cs c j =
+    let l1 = drop (j .next - at) l in
+    let there = format-there people alleles (j .key) gt (j .next) l1 (j .code) (j .len) (j .first) (j .stop) (j .value) in
+    rw (drop-past l at (j .next) (j .first) (j .keyLater) (j .later)) at
+    (length-chosen people Format (j .next) l1 cs (j .code) (j .len) (j .first) (j .stop) c there)
+
+-- one FORMAT field of the chosen people, before whatever follows it
+formats-chosenField : (strings people gt alleles n : ℕ) (earlier : List ℕ) (known known′ : Gt) (at at′ : ℕ) (l cs m : List ℕ) {g : Gt}
+    → ascending people cs ≡ true → (j : JudgedField strings people gt alleles n earlier known at l g)
+    → formats strings (length cs) gt alleles (suc n) earlier known′ at′
+    (take (j .first - at) l ++ (chosenParts (j .len * widthOf (j .code)) cs (drop (j .first - at) l) ++ m))
+    ≡ formats strings (length cs) gt alleles n (earlier ++ (j .key ∷ [])) (gtNow (j .key) gt (gtAt (j .code) (j .len) (at′ + (j .first - at))) known′)
+    (at′ + (j .first - at) + length cs * j .len * widthOf (j .code)) m
+unfolding formats
+formats-chosenField strings people gt alleles n earlier known known′ at at′ l cs m {g} c j =
+    let a = j .keyLater in
+    let b = j .later in
+    let o = j .ends in
+    let i = j .inside in
+    let next = j .next in
+    let first = j .first in
+    let size = j .len * widthOf (j .code) in
+    let l1 = drop (next - at) l in
+    let p = drop-past l at next first a b in
+    let els = chosenParts size cs (drop (first - at) l) in
+    let rest = take (first - next) l1 ++ (els ++ m) in
+    let next′ = at′ + (next - at) in
+    let split : take (first - at) l ++ (els ++ m) ≡ take (next - at) l ++ rest = rw (take-past l at next first a b, append-assoc) in
+    let d : drop (next′ - at′) (take (next - at) l ++ rest) ≡ rest =
+    drop-at (take (next - at) l) rest (next′ - at′) (rw (length-take-le (next - at) l (omega arith)) (omega arith)) in
+    let s : sound (length cs) alleles (roleOf (j .key) gt) next′ rest
+    ≡ Present (j .code) (j .len) (next′ + (first - next)) (next′ + (first - next) + length cs * j .len * widthOf (j .code)) =
+    rw p at (sound-chosenParts people alleles (roleOf (j .key) gt) next next′ l1 cs m (j .code) (j .len) first (j .stop) c (j .value)) in
+    let x = length-judged strings people gt alleles n earlier known at l cs c j in
+    let y : next′ + (first - next) ≡ at′ + (first - at) = omega arith in
+    let stop′ = at′ + (first - at) + length cs * j .len * widthOf (j .code) in
+    let z : drop (stop′ - next′) rest ≡ m =
+    ap (drop (stop′ - next′)) (sym (append-assoc (take (first - next) l1) els m)) ∙ drop-at (take (first - next) l1 ++ els) m (stop′ - next′)
+    (rw (length-append, x, length-take-le (first - next) l1 (rw length-drop (omega arith))) (omega arith)) in
+    rw (split, keyed-front strings at at′ l rest (j .key) next (j .number), j .once, d, s, y, z)
+
+-- at most as many bytes as everybody's
+pub length-chosenFields : (strings people gt alleles n : ℕ) (earlier : List ℕ) (known : Gt) (at : ℕ) (l cs : List ℕ) {g : Gt}
+    → ascending people cs ≡ true → formats strings people gt alleles n earlier known at l ≡ Sound g
+    → length (chosenFields people cs n at l) ≤ length l
+unfolding chosenFields
+length-chosenFields strings people gt alleles zero earlier known at l cs c h = omega arith
+length-chosenFields strings people gt alleles (suc n) earlier known at l cs c h =
+    let j = formats-field strings people gt alleles n earlier known at l h in
+    let a = j .keyLater in
+    let b = j .later in
+    let d = j .ends in
+    let e = j .inside in
+    let r = rw (length-drop (j .stop - at) l) at (length-chosenFields strings people gt alleles n _ _ (j .stop) (drop (j .stop - at) l) cs c (j .on)) in
+    let x = length-judged strings people gt alleles n earlier known at l cs c j in
+    let z = length-ascending 0 people cs c in
+    let k : length cs ≤ people = omega arith in
+    let y : length cs * j .len * widthOf (j .code) ≤ people * j .len * widthOf (j .code) =
+    mul-le-mul-right (widthOf (j .code)) (mul-le-mul-right (j .len) k) in
+    rw (j .field, length-append, length-append, x, length-take-le (j .first - at) l (omega arith)) (omega arith)
+
+-- GT in a record and in the chosen one: the same type and length, all elements there, and in the chosen one those of the chosen people
+pub record SameGt (people : ℕ) (cs s s′ : List ℕ) (g g′ : Gt) : Type 0 where
+  pub code : g′ .code ≡ g .code
+  pub len : g′ .len ≡ g .len
+  pub inside : g .first + people * g .len * widthOf (g .code) ≤ length s
+  pub inside′ : g′ .first + length cs * g .len * widthOf (g .code) ≤ length s′
+  pub elements : take (length cs * g .len * widthOf (g .code)) (drop (g′ .first) s′)
+      ≡ chosenParts (g .len * widthOf (g .code)) cs (take (people * g .len * widthOf (g .code)) (drop (g .first) s))
+
+-- parts of no size are nothing
+chosenParts-none : (cs l : List ℕ) → chosenParts 0 cs l ≡ []
+unfolding chosenParts
+chosenParts-none [] l = refl
+chosenParts-none (c ∷ cs) l = rw (chosenParts-none cs l)
+
+-- no GT is the same in both
+pub no-gt : (people : ℕ) (cs s s′ : List ℕ) → SameGt people cs s s′ noGt noGt
+no-gt people cs s s′ =
+    let a : people * 0 * widthOf 0 ≡ 0 = rw (mul-zero people, zero-mul (widthOf 0)) in
+    let b : length cs * 0 * widthOf 0 ≡ 0 = rw (mul-zero (length cs), zero-mul (widthOf 0)) in
+    record {
+      code = refl;
+      len = refl;
+      inside = omega arith;
+      inside′ = omega arith;
+      elements = rw (b, zero-mul (widthOf 0), chosenParts-none);
+    }
+
+-- GT after a field
+same-now : (people : ℕ) (cs s s′ : List ℕ) (key gt : ℕ) (x x′ y y′ : Gt) → SameGt people cs s s′ x x′ → SameGt people cs s s′ y y′
+    → SameGt people cs s s′ (gtNow key gt x y) (gtNow key gt x′ y′)
+unfolding gtNow
+same-now people cs s s′ key gt x x′ y y′ a b = by-key (eqb key gt)
+  where
+    by-key : (c : Bool) → SameGt people cs s s′ (pick c x y) (pick c x′ y′)
+    by-key true = a
+    by-key false = b
+
+-- the chosen block: how it is read, and where its GT stands
+pub record Block (strings people gt alleles n : ℕ) (earlier : List ℕ) (known′ : Gt) (at′ : ℕ) (cs s s′ : List ℕ) (g : Gt) : Type 0 where
+  pub known : Gt
+  pub read : formats strings (length cs) gt alleles n earlier known′ at′ (drop at′ s′) ≡ Sound known
+  pub same : SameGt people cs s s′ g known
+
+-- no field is left, and no byte
+formats-ended : (strings people gt alleles : ℕ) (earlier : List ℕ) (known : Gt) (at : ℕ) (l : List ℕ) {g : Gt}
+    → formats strings people gt alleles zero earlier known at l ≡ Sound g → known ≡ g
+unfolding formats
+formats-ended strings people gt alleles earlier known at [] h = cc
+formats-ended strings people gt alleles earlier known at (b ∷ rest) h = cc
+
+pub formats-none : (strings people gt alleles : ℕ) (earlier : List ℕ) (known : Gt) (at : ℕ)
+    → formats strings people gt alleles zero earlier known at [] ≡ Sound known
+unfolding formats
+formats-none strings people gt alleles earlier known at = refl
+
+-- a field, and then the block from its end on
+block-on : (strings people gt alleles n : ℕ) (earlier on : List ℕ) (known′ now : Gt) (at′ stop′ : ℕ) (cs s s′ front m : List ℕ) (g : Gt)
+    → drop at′ s′ ≡ front → drop stop′ s′ ≡ m
+    → formats strings (length cs) gt alleles (suc n) earlier known′ at′ front ≡ formats strings (length cs) gt alleles n on now stop′ m
+    → Block strings people gt alleles n on now stop′ cs s s′ g → Block strings people gt alleles (suc n) earlier known′ at′ cs s s′ g
+block-on strings people gt alleles n earlier on known′ now at′ stop′ cs s s′ front m g e v step r =
+    record { known = r .known; read = rw (e, step) (rw v at (r .read)); same = r .same }
+
+-- the law: where the fields of everybody are sound from a place on, the chosen people's are, from any place of another list on
+pub formats-chosenFields : (strings people gt alleles n : ℕ) (earlier : List ℕ) (known known′ : Gt) (at at′ : ℕ) (cs s s′ : List ℕ) {g : Gt}
+    → ascending people cs ≡ true → at ≤ length s → at′ ≤ length s′ → SameGt people cs s s′ known known′
+    → drop at′ s′ ≡ chosenFields people cs n at (drop at s)
+    → formats strings people gt alleles n earlier known at (drop at s) ≡ Sound g
+    → Block strings people gt alleles n earlier known′ at′ cs s s′ g
+unfolding chosenFields
+formats-chosenFields strings people gt alleles zero earlier known known′ at at′ cs s s′ c i i′ k e h =
+    record {
+      known = known′;
+      read = rw e (formats-none strings (length cs) gt alleles earlier known′ at′);
+      same = rw (formats-ended strings people gt alleles earlier known at (drop at s) h) at k;
+    }
+formats-chosenFields strings people gt alleles (suc n) earlier known known′ at at′ cs s s′ {g} c i i′ k e h =
+    let l = drop at s in
+    let j = formats-field strings people gt alleles n earlier known at l h in
+    let first = j .first in
+    let stop = j .stop in
+    let a = j .keyLater in
+    let b = j .later in
+    let d = j .ends in
+    let o = rw (length-drop at s) at (j .inside) in
+    let size = j .len * widthOf (j .code) in
+    let els = chosenParts size cs (drop (first - at) l) in
+    let m = chosenFields people cs n stop (drop (stop - at) l) in
+    let split : drop at′ s′ ≡ take (first - at) l ++ (els ++ m) = rw (j .field) at e in
+    let x = length-judged strings people gt alleles n earlier known at l cs c j in
+    let y : length (take (first - at) l) ≡ first - at = length-take-le (first - at) l (rw (length-drop at s) (omega arith)) in
+    let first′ = at′ + (first - at) in
+    let stop′ = first′ + length cs * j .len * widthOf (j .code) in
+    let u : drop first′ s′ ≡ els ++ m =
+    sym (drop-on s′ at′ first′ (omega arith)) ∙ ap (drop (first′ - at′)) split
+    ∙ drop-at (take (first - at) l) (els ++ m) (first′ - at′) (rw y (omega arith)) in
+    let v : drop stop′ s′ ≡ m =
+    sym (drop-on s′ first′ stop′ (omega arith)) ∙ ap (drop (stop′ - first′)) u ∙ drop-at els m (stop′ - first′) (rw x (omega arith)) in
+    let w : length (drop at′ s′) ≡ first - at + length cs * j .len * widthOf (j .code) + length m =
+    rw (split, length-append, length-append, x, y) (omega arith) in
+    let w′ = rw (length-drop at′ s′) at w in
+    let p = drop-on s at stop (omega arith) in
+    let q = drop-on s at first (omega arith) in
+    let here : SameGt people cs s s′ (gtAt (j .code) (j .len) first) (gtAt (j .code) (j .len) first′) =
+    record {
+      code = refl;
+      len = refl;
+      inside = omega arith;
+      inside′ = omega arith;
+      elements = rw (
+        u,
+        take-at els m (length cs * j .len * widthOf (j .code)) x,
+        mul-assoc people (j .len) (widthOf (j .code)),
+        chosenParts-take size 0 people cs (drop first s) c,
+        q,
+      );
+    } in
+    let known1 = gtNow (j .key) gt (gtAt (j .code) (j .len) first) known in
+    let known1′ = gtNow (j .key) gt (gtAt (j .code) (j .len) first′) known′ in
+    let now = same-now people cs s s′ (j .key) gt _ _ known known′ here k in
+    let on : formats strings people gt alleles n (earlier ++ (j .key ∷ [])) known1 stop (drop stop s) ≡ Sound g = rw p at (j .on) in
+    let r = formats-chosenFields strings people gt alleles n (earlier ++ (j .key ∷ [])) known1 known1′ stop stop′ cs s s′ c (omega arith) (omega arith) now
+    (rw p at v) on in
+    block-on strings people gt alleles n earlier (earlier ++ (j .key ∷ [])) known′ known1′ at′ stop′ cs s s′ (take (first - at) l ++ (els ++ m)) m g split v
+    (formats-chosenField strings people gt alleles n earlier known known′ at at′ l cs m c j) r

@@ -1,0 +1,185 @@
+-- The front and the site block of the chosen record: all is as it was but l_indiv and the people count. Rests on proofs/Stored,
+-- proofs/Fixed and specs/Chosen of choose.
+use mathlib.Core.Path.{_≡_, refl, _∙_}
+use mathlib.Core.List.{List, [], _∷_}
+use mathlib.Core.Bool.{Bool, true, false}
+use Prim.Native.Nat.{ℕ, zero, suc, _+_, _-_, _*_, _≤_, _<_, _^_}
+use native.Mathlib.Omega.{arith}
+use lib.Dec.{eqb, ltb}
+use lib.ListN.{length, take, drop, length-append, length-drop}
+use lib.Seq.{sets, length-sets, length-take-le, take-at, drop-at}
+use borrow.Author.Tests.{eqb-true, eq-eqb, ne-eqb}
+use Rattle.words.specs.Pick.{pick}
+use Rattle.words.specs.Words.{number, bytes, Bytes}
+use Rattle.words.proofs.Words.{le-bound, length-bytes}
+use Rattle.fixed.specs.Layout.{indivAt, chromAt, posAt, rlenAt, countsAt, peopleAt, qualAt, idAt, field, peopleWrong}
+use Rattle.fixed.specs.declared.Facts.{Facts}
+use Rattle.fixed.specs.declared.Site.{Site}
+use Rattle.choose.specs.Chosen.{keptFormats, chosenBlock, chosenSite, chosenRecord}
+use Rattle.chosen.specs.Releases.{forPeople, releasedSite}
+use Rattle.chosen.proofs.Stored.{drop-sets, field-take, field-elsewhere, field-stored, field-append}
+use Rattle.chosen.proofs.Fixed.{Fits}
+
+pub length-chosenSite : (t : Site) (cs : List ℕ) (n : ℕ) (s : List ℕ) → t .border ≤ length s → length (chosenSite t cs n s) ≡ t .border
+unfolding chosenSite
+length-chosenSite t cs n s h =
+    rw (
+      length-sets (sets (take (t .border) s) indivAt (bytes 4 n)) peopleAt (bytes 4 (keptFormats cs (t .formats) * 16777216 + length cs)),
+      length-sets (take (t .border) s) indivAt (bytes 4 n),
+    ) (length-take-le (t .border) s h)
+
+-- the bytes from ID on stay
+pub drop-chosenSite : (t : Site) (cs : List ℕ) (n : ℕ) (s : List ℕ) → drop idAt (chosenSite t cs n s) ≡ drop idAt (take (t .border) s)
+unfolding chosenSite
+drop-chosenSite t cs n s =
+    let members = keptFormats cs (t .formats) * 16777216 + length cs in
+    let l = take (t .border) s in
+    let a = length-bytes 4 n in
+    let b = length-bytes 4 members in
+    drop-sets idAt (sets l indivAt (bytes 4 n)) peopleAt (bytes 4 members) (omega arith) ∙ drop-sets idAt l indivAt (bytes 4 n) (omega arith)
+
+-- so do the fields but the two
+field-chosenSite : (t : Site) (cs : List ℕ) (n : ℕ) (s : List ℕ) (p : ℕ) → 4 ≤ indivAt - p + (p - indivAt) → 4 ≤ peopleAt - p + (p - peopleAt)
+    → p + 4 ≤ t .border → field p (chosenSite t cs n s) ≡ field p s
+unfolding chosenSite
+field-chosenSite t cs n s p h k e =
+    let members = keptFormats cs (t .formats) * 16777216 + length cs in
+    let l = take (t .border) s in
+    let a = length-bytes 4 n in
+    let b = length-bytes 4 members in
+    field-elsewhere p peopleAt (sets l indivAt (bytes 4 n)) (bytes 4 members) (omega arith) k
+    ∙ field-elsewhere p indivAt l (bytes 4 n) (omega arith) h ∙ field-take p (t .border) s e
+
+indiv-chosenSite : (t : Site) (cs : List ℕ) (n : ℕ) (s : List ℕ) → idAt ≤ t .border → t .border ≤ length s → n < 2 ^ 32
+    → field indivAt (chosenSite t cs n s) ≡ n
+unfolding chosenSite
+indiv-chosenSite t cs n s h k b =
+    let members = keptFormats cs (t .formats) * 16777216 + length cs in
+    let l = take (t .border) s in
+    let a = length-bytes 4 members in
+    let e = length-take-le (t .border) s k in
+    field-elsewhere indivAt peopleAt (sets l indivAt (bytes 4 n)) (bytes 4 members) (omega arith) (omega arith)
+    ∙ field-stored indivAt n l (omega arith) b
+
+people-chosenSite : (t : Site) (cs : List ℕ) (n : ℕ) (s : List ℕ) → idAt ≤ t .border → t .border ≤ length s
+    → keptFormats cs (t .formats) * 16777216 + length cs < 2 ^ 32
+    → field peopleAt (chosenSite t cs n s) ≡ keptFormats cs (t .formats) * 16777216 + length cs
+unfolding chosenSite
+people-chosenSite t cs n s h k b =
+    let l = take (t .border) s in
+    let a = length-sets l indivAt (bytes 4 n) in
+    let e = length-take-le (t .border) s k in
+    field-stored peopleAt (keptFormats cs (t .formats) * 16777216 + length cs) (sets l indivAt (bytes 4 n)) (omega arith) b
+
+-- the chosen record is its site and its genotype block
+pub length-chosenRecord : (t : Site) (cs s : List ℕ) → t .border ≤ length s → length (chosenRecord t cs s) ≡ t .border + length (chosenBlock t cs s)
+unfolding chosenRecord
+length-chosenRecord t cs s h =
+    let n = length (chosenBlock t cs s) in
+    rw (length-append (chosenSite t cs n s) (chosenBlock t cs s), length-chosenSite t cs n s h)
+
+pub take-chosenRecord : (t : Site) (cs s : List ℕ) → t .border ≤ length s
+    → take (t .border) (chosenRecord t cs s) ≡ chosenSite t cs (length (chosenBlock t cs s)) s
+unfolding chosenRecord
+take-chosenRecord t cs s h =
+    let n = length (chosenBlock t cs s) in
+    take-at (chosenSite t cs n s) (chosenBlock t cs s) (t .border) (length-chosenSite t cs n s h)
+
+pub drop-chosenRecord : (t : Site) (cs s : List ℕ) → t .border ≤ length s → drop (t .border) (chosenRecord t cs s) ≡ chosenBlock t cs s
+unfolding chosenRecord
+drop-chosenRecord t cs s h =
+    let n = length (chosenBlock t cs s) in
+    drop-at (chosenSite t cs n s) (chosenBlock t cs s) (t .border) (length-chosenSite t cs n s h)
+
+field-chosenRecord : (t : Site) (cs s : List ℕ) (p : ℕ) → t .border ≤ length s → p + 4 ≤ t .border
+    → field p (chosenRecord t cs s) ≡ field p (chosenSite t cs (length (chosenBlock t cs s)) s)
+unfolding chosenRecord
+field-chosenRecord t cs s p h k =
+    let n = length (chosenBlock t cs s) in
+    let e = length-chosenSite t cs n s h in
+    field-append p (chosenSite t cs n s) (chosenBlock t cs s) (omega arith)
+
+-- the FORMAT fields are counted in one byte
+Bytes-drop : (n : ℕ) (l : List ℕ) → Bytes l → Bytes (drop n l)
+Bytes-drop zero l b = b
+Bytes-drop (suc n) [] b = b
+Bytes-drop (suc n) (x ∷ l) b = Bytes-drop n l (b .1)
+
+Bytes-take : (n : ℕ) (l : List ℕ) → Bytes l → Bytes (take n l)
+Bytes-take zero l b = tt
+Bytes-take (suc n) [] b = b
+Bytes-take (suc n) (x ∷ l) b = (b .0, Bytes-take n l (b .1))
+
+pub field-bound : (p : ℕ) (s : List ℕ) → Bytes s → p + 4 ≤ length s → field p s < 2 ^ 32
+unfolding field number
+field-bound p s b h =
+    let l = take 4 (drop p s) in
+    let e : length l ≡ 4 = length-take-le 4 (drop p s) (rw length-drop (omega arith)) in
+    rw e at (le-bound l (Bytes-take 4 (drop p s) (Bytes-drop p s b)))
+
+-- the people are as many as are given, and of nobody there are no FORMAT fields
+pub people-given : (given formats people : ℕ) → peopleWrong given formats people ≡ false → people ≡ given
+unfolding peopleWrong
+people-given given formats people h = by-test (eqb people given) refl h
+  where
+    by-test : (b : Bool) → eqb people given ≡ b → pick b (pick (eqb people 0) (ltb 0 formats) false) true ≡ false → people ≡ given
+    by-test true e k = eqb-true people given e
+    by-test false e k = cc
+
+people-right : (cs : List ℕ) (formats : ℕ) → peopleWrong (length cs) (keptFormats cs formats) (length cs) ≡ false
+unfolding peopleWrong
+people-right [] formats = refl
+people-right (c ∷ cs) formats = rw (eq-eqb (suc (length cs)) (suc (length cs)) refl, ne-eqb (suc (length cs)) 0 (λ e. omega arith))
+
+kept-most : (cs : List ℕ) (formats : ℕ) → keptFormats cs formats ≤ formats
+kept-most [] formats = omega arith
+kept-most (c ∷ cs) formats = omega arith
+
+pub fits-chosenRecord : (f : Facts) (s : List ℕ) (t : Site) (cs : List ℕ) → Bytes s → Fits f s t → length cs ≤ t .people
+    → length (chosenBlock t cs s) ≤ t .length - t .border → Fits (forPeople (length cs) f) (chosenRecord t cs s) (releasedSite cs s t)
+fits-chosenRecord f s t cs b x c n =
+    let r = chosenRecord t cs s in
+    let size = length (chosenBlock t cs s) in
+    let i = x .site in
+    let j = x .there in
+    let m = x .most in
+    let o = x .whole in
+    let q = x .border in
+    let h : t .border ≤ length s = omega arith in
+    let bound = field-bound peopleAt s b (omega arith) in
+    let formats = x .formats in
+    let people = x .people in
+    let kept = kept-most cs (t .formats) in
+    let members = keptFormats cs (t .formats) * 16777216 + length cs in
+    let small : members < 2 ^ 32 = omega arith in
+    let few : size < 2 ^ 32 = omega arith in
+    let len = length-chosenRecord t cs s h in
+    let e0 : field 0 r ≡ field 0 s = kept-field 0 h (omega arith) (omega arith) (omega arith) in
+    let e4 : field indivAt r ≡ size = field-chosenRecord t cs s indivAt h (omega arith) ∙ indiv-chosenSite t cs size s i h few in
+    let e20 : field countsAt r ≡ field countsAt s = kept-field countsAt h (omega arith) (omega arith) (omega arith) in
+    let e24 : field peopleAt r ≡ members = field-chosenRecord t cs s peopleAt h (omega arith) ∙ people-chosenSite t cs size s i h small in
+    record {
+      border = omega arith;
+      whole = omega arith;
+      there = omega arith;
+      most = omega arith;
+      site = i;
+      chrom = kept-field chromAt h (omega arith) (omega arith) (omega arith) ∙ x .chrom;
+      pos = kept-field posAt h (omega arith) (omega arith) (omega arith) ∙ x .pos;
+      rlen = kept-field rlenAt h (omega arith) (omega arith) (omega arith) ∙ x .rlen;
+      qual = kept-field qualAt h (omega arith) (omega arith) (omega arith) ∙ x .qual;
+      alleles = rw e20 (x .alleles);
+      infos = rw e20 (x .infos);
+      formats = rw e24 (omega arith);
+      people = rw e24 (omega arith);
+      chromRight = x .chromRight;
+      posRight = x .posRight;
+      rlenRight = x .rlenRight;
+      countsRight = x .countsRight;
+      peopleRight = people-right cs (t .formats);
+      qualRight = x .qualRight;
+    }
+  where
+    kept-field : (p : ℕ) → t .border ≤ length s → p + 4 ≤ t .border → 4 ≤ indivAt - p + (p - indivAt) → 4 ≤ peopleAt - p + (p - peopleAt)
+        → field p (chosenRecord t cs s) ≡ field p s
+    kept-field p h k u v = field-chosenRecord t cs s p h k ∙ field-chosenSite t cs (length (chosenBlock t cs s)) s p u v k

@@ -1,0 +1,59 @@
+-- Four bytes stored in a list: what stands there and what stands elsewhere. Rests on the layout and on words' numbers.
+use mathlib.Core.Path.{_≡_, refl, sym, _∙_, ap}
+use mathlib.Core.List.{List, [], _∷_, _++_, append-assoc}
+use mathlib.Core.Bool.{Bool, true, false}
+use Prim.Native.Nat.{ℕ, suc, _+_, _-_, _≤_, _<_, _^_}
+use native.Mathlib.Omega.{arith}
+use lib.Dec.{leb}
+use lib.ListN.{length, take, drop, set}
+use lib.Seq.{sets, sets-eq, take-set-le, drop-set-lt, take-append-le, length-take-le, drop-at}
+use borrow.Author.Tests.{leb-true, leb-false}
+use Rattle.words.specs.Words.{number, bytes}
+use Rattle.words.proofs.Words.{length-bytes, number-bytes}
+use Rattle.fixed.specs.Layout.{field}
+use Rattle.fetch.proofs.Bytes.{part-of}
+
+-- a store leaves what stands before it and after it
+pub take-sets : (n : ℕ) (l : List ℕ) (i : ℕ) (vs : List ℕ) → n ≤ i → take n (sets l i vs) ≡ take n l
+take-sets n l i [] h = refl
+take-sets n l i (v ∷ vs) h = take-sets n (set l i v) (suc i) vs (omega arith) ∙ take-set-le n l i v h
+
+pub drop-sets : (n : ℕ) (l : List ℕ) (i : ℕ) (vs : List ℕ) → i + length vs ≤ n → drop n (sets l i vs) ≡ drop n l
+drop-sets n l i [] h = refl
+drop-sets n l i (v ∷ vs) h = drop-sets n (set l i v) (suc i) vs (omega arith) ∙ drop-set-lt n l i v (omega arith)
+
+-- a field is its four bytes
+field-part : (p : ℕ) (l m : List ℕ) → take 4 (drop p l) ≡ take 4 (drop p m) → field p l ≡ field p m
+unfolding field number
+field-part p l m h = rw h
+
+pub field-take : (p n : ℕ) (l : List ℕ) → p + 4 ≤ n → field p (take n l) ≡ field p l
+field-take p n l h = field-part p (take n l) l (part-of l p 4 n h)
+
+field-before : (p i : ℕ) (l vs : List ℕ) → p + 4 ≤ i → field p (sets l i vs) ≡ field p l
+field-before p i l vs h =
+    sym (field-take p i (sets l i vs) h) ∙ ap (field p) (take-sets i l i vs (omega arith)) ∙ field-take p i l h
+
+field-after : (p i : ℕ) (l vs : List ℕ) → i + length vs ≤ p → field p (sets l i vs) ≡ field p l
+field-after p i l vs h = field-part p (sets l i vs) l (ap (take 4) (drop-sets p l i vs h))
+
+-- a store of at most four bytes leaves a field that stands four or more places away, on either side
+pub field-elsewhere : (p i : ℕ) (l vs : List ℕ) → length vs ≤ 4 → 4 ≤ i - p + (p - i) → field p (sets l i vs) ≡ field p l
+field-elsewhere p i l vs h k = by-side (leb (p + 4) i) refl
+  where
+    by-side : (b : Bool) → leb (p + 4) i ≡ b → field p (sets l i vs) ≡ field p l
+    by-side true e = field-before p i l vs (leb-true (p + 4) i e)
+    by-side false e = let z = leb-false (p + 4) i e in field-after p i l vs (omega arith)
+
+pub field-stored : (i v : ℕ) (l : List ℕ) → i + 4 ≤ length l → v < 2 ^ 32 → field i (sets l i (bytes 4 v)) ≡ v
+unfolding field
+field-stored i v l h b =
+    let e = length-bytes 4 v in
+    let rest = drop (i + length (bytes 4 v)) l in
+    let k : i + length (bytes 4 v) ≤ length l = omega arith in
+    let q : length (take i l) ≡ i = length-take-le i l (omega arith) in
+    rw (sets-eq (bytes 4 v) l i k, append-assoc (take i l) (bytes 4 v) rest, drop-at (take i l) (bytes 4 v ++ rest) i q) (number-bytes 4 v rest b)
+
+pub field-append : (p : ℕ) (l m : List ℕ) → p + 4 ≤ length l → field p (l ++ m) ≡ field p l
+field-append p l m h =
+    sym (field-take p (p + 4) (l ++ m) (omega arith)) ∙ ap (field p) (take-append-le (p + 4) l m h) ∙ field-take p (p + 4) l (omega arith)

@@ -1,0 +1,41 @@
+-- What is chosen of the sample record is computed. Rests on specs/Cut.
+use mathlib.Core.Path.{refl}
+use Rattle.words.specs.Lists.{among}
+use Rattle.words.specs.Words.{le, number, bytes, outside}
+use Rattle.types.specs.Rows.{rowOf, widthOf}
+use Rattle.types.specs.Elements.{marked, kind, widened, shown}
+use Rattle.values.specs.Values.{integer, trueLength, keyed, described, present}
+use Rattle.vectors.specs.Vectors.{numbers, shownNumbers, vector, vectors, judged}
+use Rattle.vectors.specs.Sound.{highest, codeMost, sound}
+use Rattle.fixed.specs.Layout.{field, posWrong, peopleWrong, qualWrong}
+use Rattle.fixed.specs.Fixed.{blocks, fixed}
+use Rattle.site.specs.Steps.{times}
+use Rattle.site.specs.Alleles.{alleleBytes, allele}
+use Rattle.site.specs.Filters.{filters, filtered, filter}
+use Rattle.site.specs.Site.{info, site}
+use Rattle.genotypes.specs.Formats.{roleOf, gtNow, formats}
+use Rattle.record.specs.Reading.{siteOf, genotypesOf, reading}
+use Rattle.fetch.specs.Fetch.{paired, passing, past, toField, fieldIn, fieldOf, found, fetched}
+use Rattle.calls.specs.Calls.{slots, alleleOf, alleles, people, called, without, howMany, counters, tally, peopleOf, counted}
+use Rattle.tally.specs.Tally.{callsOf, tallied}
+use Rattle.choose.specs.Choice.{ascendingFrom, chosenParts}
+use Rattle.choose.specs.Chosen.{chosenFields, chosenBlock, chosenSite, chosenRecord}
+use Rattle.choose.specs.Choose.{choosing}
+use Rattle.laws.specs.Sample.{sample}
+use Rattle.laws.specs.Cut.{Cut, second}
+
+pub sample-cut : Cut
+unfolding sample second among le number bytes outside rowOf widthOf marked kind widened shown integer trueLength keyed described present numbers shownNumbers vector vectors judged highest codeMost sound field posWrong peopleWrong qualWrong blocks fixed times alleleBytes allele filters filtered filter info site roleOf gtNow formats siteOf genotypesOf reading paired passing past toField fieldIn fieldOf found fetched slots alleleOf alleles people called without howMany counters tally peopleOf counted callsOf tallied ascendingFrom chosenParts chosenFields chosenBlock chosenSite chosenRecord choosing
+sample-cut =
+    record {
+      bytes = refl;
+      gt = refl;
+      tally = refl;
+      everybody = refl;
+      nobody = refl;
+      chosen = refl;
+      short = refl;
+      twice = refl;
+      high = refl;
+      unread = refl;
+    }
