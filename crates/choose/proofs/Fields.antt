@@ -1,30 +1,19 @@
--- FORMAT fields passed one after the other: where each ends, and one turn of the walk for their size and for their chosen bytes.
--- Rests on specs/Sizes, specs/Chosen, and on fetch for the field at the front of a list.
+-- FORMAT fields passed one after the other: one turn of the walk for their size and for their chosen bytes. Rests on specs/Sizes,
+-- specs/Chosen, and on fetch for the field at the front of a list.
 use mathlib.Core.Path.{_≡_, refl}
 use mathlib.Core.List.{List, [], _++_}
-use mathlib.Core.Bool.{Bool, true, false}
+use mathlib.Core.Bool.{true}
 use Prim.Native.Nat.{ℕ, zero, suc, _+_, _-_, _*_, _<_, _≤_}
 use native.Mathlib.Omega.{arith}
 use native.Mathlib.Nat.{mul-assoc, mul-le-mul-right}
 use native.Mathlib.Numerals.{sub-one}
-use lib.Dec.{leb}
 use lib.ListN.{length, take, drop, length-append, length-drop}
 use lib.Seq.{length-take-le}
-use Rattle.words.specs.Pick.{pick}
 use Rattle.words.proofs.Places.{drop-on}
 use Rattle.types.specs.Rows.{widthOf}
-use Rattle.types.specs.declared.Use.{Use}
-use Rattle.types.specs.declared.Use.the-variants.{Key, Format}
-use Rattle.values.specs.Answers.{noValue, whole}
-use Rattle.values.specs.Values.{integer, described, withElements, present}
+use Rattle.types.specs.declared.Use.the-variants.{Format}
 use Rattle.values.specs.declared.Refusal.{Refusal}
-use Rattle.values.specs.declared.Integer.{Integer}
-use Rattle.values.specs.declared.Integer.the-variants.{One, Refused as NoInteger}
-use Rattle.values.specs.declared.Descriptor.{Descriptor}
-use Rattle.values.specs.declared.Descriptor.the-variants.{Typed, Refused as NoDescriptor}
-use Rattle.values.specs.declared.Value.{Value}
-use Rattle.values.specs.declared.Value.the-variants.{Present, Refused as NoValue}
-use Rattle.fetch.specs.Fetch.{valueField, afterKey, paired}
+use Rattle.fetch.specs.Fetch.{paired}
 use Rattle.fetch.specs.declared.Found.{Found}
 use Rattle.fetch.specs.declared.Found.the-variants.{Field, Refused}
 use Rattle.fetch.proofs.Inside.{paired-inside}
@@ -32,28 +21,7 @@ use Rattle.choose.specs.Choice.{ascending, chosenParts}
 use Rattle.choose.specs.Chosen.{chosenField, chosenFields}
 use Rattle.choose.specs.Sizes.{fieldSize, fieldsSize}
 use Rattle.choose.proofs.Choice.{length-chosenParts}
-
--- the elements of a value, and so of a field, end where so many vectors of its length do
-elements-stop : (vectors end : ℕ) (d : Descriptor) (key : ℕ) {key′ t n first stop : ℕ}
-    → valueField key (withElements vectors end d) ≡ Field key′ t n first stop → stop ≡ first + vectors * n * widthOf t
-elements-stop vectors end (NoDescriptor r) key h = cc
-elements-stop vectors end (Typed t n first) key h = by-room (leb (first + vectors * n * widthOf t) end) h
-  where
-    by-room : (b : Bool) {key′ t′ n′ first′ stop′ : ℕ}
-        → valueField key (pick b (whole t n first (first + vectors * n * widthOf t)) (noValue 3 end)) ≡ Field key′ t′ n′ first′ stop′
-        → stop′ ≡ first′ + vectors * n′ * widthOf t′
-    by-room true e = cc
-    by-room false e = cc
-
-pub paired-stop : (vectors : ℕ) (role : Use) (at : ℕ) (l : List ℕ) {key t n first stop : ℕ}
-    → paired vectors role at l ≡ Field key t n first stop → stop ≡ first + vectors * n * widthOf t
-unfolding paired present
-paired-stop vectors role at l h = by-key (integer Key at l) h
-  where
-    by-key : (i : Integer) {key t n first stop : ℕ} → afterKey vectors role at l i ≡ Field key t n first stop
-        → stop ≡ first + vectors * n * widthOf t
-    by-key (NoInteger r) e = cc
-    by-key (One key next) e = elements-stop vectors (next + length (drop (next - at) l)) (described role next (drop (next - at) l)) key e
+use Rattle.choose.proofs.There.{paired-stop}
 
 -- some people's parts are no more than everybody's
 pub kept-parts : (kept people n w : ℕ) → kept ≤ people → kept * (n * w) ≤ people * n * w
@@ -107,3 +75,19 @@ length-chosenFields people cs (suc n) at l h = by-field (paired people Format at
         let head : length (take (first - at) l) ≡ first - at = length-take-le (first - at) l (omega (arith, i)) in
         rw (length-append, length-append, head, length-chosenParts (len * widthOf t) 0 people cs (drop (first - at) l) h room, on stop (drop (stop - at) l))
         (omega arith)
+
+-- some people's fields are no longer than everybody's
+pub size-inside : (people kept n at : ℕ) (l : List ℕ) → kept ≤ people → fieldsSize people kept n at l ≤ length l
+unfolding fieldsSize
+size-inside people kept zero at l h = omega arith
+size-inside people kept (suc n) at l h = by-field (paired people Format at l) refl (λ q m. size-inside people kept n q m h)
+  where
+    by-field : (f : Found) → paired people Format at l ≡ f → ((q : ℕ) (m : List ℕ) → fieldsSize people kept n q m ≤ length m)
+        → fieldSize kept at l (fieldsSize people kept n) f ≤ length l
+    by-field (Refused r) e on = omega arith
+    by-field (Field key t len first stop) e on =
+        let i = rw e at (paired-inside people Format at l) in
+        let st = paired-stop people Format at l e in
+        let k = kept-parts kept people len (widthOf t) h in
+        let r = rw (length-drop (stop - at) l) at (on stop (drop (stop - at) l)) in
+        omega (arith, i)

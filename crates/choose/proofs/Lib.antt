@@ -1,5 +1,6 @@
 pub mod Choice
 pub mod Fields
-pub mod People
+pub mod Fixed
 pub mod Stretches
+pub mod There
 pub mod Written

@@ -2,7 +2,7 @@
 use mathlib.Core.Path.{_≡_, _∙_, refl, sym, ap}
 use mathlib.Core.List.{List, [], _∷_, _++_, append-assoc}
 use mathlib.Core.Bool.{true}
-use Prim.Native.Nat.{ℕ, zero, suc, _+_, _-_, _*_, _<_, _≤_}
+use Prim.Native.Nat.{ℕ, _+_, _-_, _*_, _<_, _≤_}
 use native.Mathlib.Omega.{arith}
 use native.Mathlib.Nat.{mul-assoc, zero-add}
 use lib.ListN.{length, take, drop, length-append, length-drop}
@@ -24,7 +24,8 @@ use Rattle.choose.specs.Choice.{ascending, chosenParts}
 use Rattle.choose.specs.Chosen.{keptFormats, chosenFields, chosenBlock, chosenSite, chosenRecord}
 use Rattle.choose.specs.Sizes.{fieldsSize}
 use Rattle.choose.proofs.Choice.{length-chosenParts}
-use Rattle.choose.proofs.Fields.{paired-stop, fields-turn, length-chosenFields}
+use Rattle.choose.proofs.Fields.{fields-turn, length-chosenFields}
+use Rattle.choose.proofs.There.{paired-stop}
 
 -- of nobody no field is kept, of somebody all are
 pub kept-none : (cs : List ℕ) (formats : ℕ) → length cs ≡ 0 → keptFormats cs formats ≡ 0
@@ -103,7 +104,11 @@ pub size-block : (t : Site) (cs s : List ℕ) → ascending (t .people) cs ≡ t
 unfolding chosenBlock
 size-block t cs s h = length-chosenFields (t .people) cs (keptFormats cs (t .formats)) (t .border) (drop (t .border) (take (t .length) s)) h
 
+pub length-chosenSite : (t : Site) (cs : List ℕ) (n : ℕ) (s : List ℕ) → t .border ≤ length s → length (chosenSite t cs n s) ≡ t .border
+unfolding chosenSite
+length-chosenSite t cs n s e = rw (length-sets, length-sets, length-take-le (t .border) s e)
+
 pub length-chosenRecord : (t : Site) (cs s : List ℕ) → t .border ≤ length s
     → length (chosenRecord t cs s) ≡ t .border + length (chosenBlock t cs s)
-unfolding chosenRecord chosenSite
-length-chosenRecord t cs s e = rw (length-append, length-sets, length-sets, length-take-le (t .border) s e)
+unfolding chosenRecord
+length-chosenRecord t cs s e = rw (length-append, length-chosenSite t cs (length (chosenBlock t cs s)) s e)

@@ -9,63 +9,39 @@ use lib.ListN.{length, take, drop, length-take, length-drop}
 use lib.Seq.{take-length, length-take-le}
 use Rattle.words.specs.Words.{Bytes}
 use Rattle.types.specs.Rows.{widthOf}
-use Rattle.fixed.specs.Fixed.{fixed}
 use Rattle.fixed.specs.declared.Facts.{Facts}
 use Rattle.fixed.specs.declared.Site.{Site}
-use Rattle.fixed.specs.declared.Fixed.{Fixed}
-use Rattle.fixed.specs.declared.Fixed.the-variants.{Site as Front, Refused as NoSite}
-use Rattle.site.specs.declared.Step.{Step}
-use Rattle.site.specs.declared.Step.the-variants.{At, Refused as NoStep}
 use Rattle.genotypes.specs.Formats.{formats, noGt}
 use Rattle.genotypes.specs.declared.Gt.{Gt}
-use Rattle.genotypes.specs.declared.Genotypes.{Genotypes}
-use Rattle.genotypes.specs.declared.Genotypes.the-variants.{Sound, Refused as NoGenotypes}
-use Rattle.record.specs.Reading.{reading, siteOf, genotypesOf, afterFixed, afterSite, afterGenotypes}
+use Rattle.genotypes.specs.declared.Genotypes.the-variants.{Sound}
+use Rattle.record.specs.Reading.{reading, siteOf, genotypesOf}
 use Rattle.record.specs.declared.Reading.the-variants.{Accepted}
 use Rattle.fetch.proofs.Bytes.{part-of}
 use Rattle.fetch.proofs.There.{accepted}
 use Rattle.choose.specs.Choice.{ascending}
-use Rattle.choose.specs.Chosen.{chosenFields, chosenBlock, chosenRecord}
+use Rattle.choose.specs.Chosen.{chosenFields, keptFormats, chosenBlock, chosenRecord}
 use Rattle.choose.proofs.Choice.{length-ascending}
+use Rattle.choose.proofs.Fields.{size-inside}
+use Rattle.choose.proofs.Fixed.{Fits, accepted-front, fixed-fits, fits-fixed}
+use Rattle.choose.proofs.Written.{length-chosenRecord, size-block}
 use Rattle.chosen.specs.Releases.{forPeople, releasedSite}
-use Rattle.chosen.proofs.Blocks.{SameGt, no-gt, formats-none, length-chosenFields, formats-chosenFields}
-use Rattle.chosen.proofs.Fixed.{Fits, fixed-fits, fits-fixed}
-use Rattle.chosen.proofs.Sites.{drop-chosenSite, length-chosenRecord, take-chosenRecord, drop-chosenRecord, people-given, fits-chosenRecord}
+use Rattle.chosen.proofs.Blocks.{SameGt, no-gt, formats-none, formats-chosenFields}
+use Rattle.chosen.proofs.Sites.{drop-chosenSite, take-chosenRecord, drop-chosenRecord, people-given, fits-chosenRecord}
 
--- an accepted record begins with its site's front
-pub accepted-front : (f : Facts) (s : List ℕ) (t : Site) (g : Gt) → reading f s ≡ Accepted t g → fixed f s ≡ Front t
-unfolding reading
-accepted-front f s t g h = by-front (fixed f s) h
-  where
-    by-genotypes : (t′ : Site) (x : Genotypes) → afterGenotypes t′ x ≡ Accepted t g → Front t′ ≡ Front t
-    by-genotypes t′ (NoGenotypes r) e = cc
-    by-genotypes t′ (Sound g′) e = cc
-
-    by-site : (t′ : Site) (p : Step) → afterSite f t′ s p ≡ Accepted t g → Front t′ ≡ Front t
-    by-site t′ (NoStep r) e = cc
-    by-site t′ (At q) e = by-genotypes t′ (genotypesOf f t′ s) e
-
-    by-front : (x : Fixed) → afterFixed f s x ≡ Accepted t g → x ≡ Front t
-    by-front (NoSite r) e = cc
-    by-front (Front t′) e = by-site t′ (siteOf f t′ s) e
-
--- its genotype block, for its own people
+-- an accepted record's genotype block, for its own people
 own-genotypes : (f : Facts) (s : List ℕ) (t : Site) (g : Gt) → t .people ≡ f .people → genotypesOf f t s ≡ Sound g
     → formats (f .strings) (t .people) (f .gt) (t .alleles) (t .formats) [] noGt (t .border) (drop (t .border) (take (t .length) s)) ≡ Sound g
 unfolding genotypesOf
 own-genotypes f s t g e h = rw e h
 
 -- the chosen block is no longer than the block
-length-chosenBlock : (f : Facts) (s : List ℕ) (t : Site) (g : Gt) (cs : List ℕ) → ascending (t .people) cs ≡ true
-    → formats (f .strings) (t .people) (f .gt) (t .alleles) (t .formats) [] noGt (t .border) (drop (t .border) (take (t .length) s)) ≡ Sound g
-    → length (chosenBlock t cs s) ≤ t .length - t .border
-unfolding chosenBlock chosenFields
-length-chosenBlock f s t g [] c h = omega arith
-length-chosenBlock f s t g (d ∷ cs) c h =
+length-chosenBlock : (s : List ℕ) (t : Site) (cs : List ℕ) → ascending (t .people) cs ≡ true → length (chosenBlock t cs s) ≤ t .length - t .border
+length-chosenBlock s t cs c =
     let l = drop (t .border) (take (t .length) s) in
-    let r = length-chosenFields (f .strings) (t .people) (f .gt) (t .alleles) (t .formats) [] noGt (t .border) l (d ∷ cs) c h in
+    let m = length-ascending 0 (t .people) cs c in
+    let r = size-inside (t .people) (length cs) (keptFormats cs (t .formats)) (t .border) l (omega arith) in
     let e = rw (length-take (t .length) s) at (length-drop (t .border) (take (t .length) s)) in
-    omega arith
+    rw (size-block t cs s c) (omega arith)
 
 -- GT stands in the record wherever it stands in a front of it
 same-whole : (people n : ℕ) (cs s s′ : List ℕ) (g g′ : Gt) → SameGt people cs (take n s) s′ g g′ → SameGt people cs s s′ g g′
@@ -129,8 +105,8 @@ release f s t g cs bytes h c =
     let a = accepted f s t g h in
     let x = fixed-fits f s t (accepted-front f s t g h) in
     let p = people-given (f .people) (t .formats) (t .people) (x .peopleRight) in
-    let y = own-genotypes f s t g p (a .genotypes) in
-    let n = length-chosenBlock f s t g cs c y in
+    let y = own-genotypes f s t g (p .0) (a .genotypes) in
+    let n = length-chosenBlock s t cs c in
     let m = length-ascending 0 (t .people) cs c in
     let i = x .border in
     let j = x .whole in

@@ -1,11 +1,11 @@
--- Choosing from a choice is choosing once. Rests on proofs/Choices, proofs/Fronts and proofs/Filled.
+-- Choosing from a choice is choosing once. Rests on proofs/Choices, proofs/Filled and proofs/Sites.
 use mathlib.Core.Path.{_≡_, refl, sym, _∙_, ap}
 use mathlib.Core.List.{List, [], _∷_}
 use mathlib.Core.Bool.{true}
 use Prim.Native.Nat.{ℕ, zero, suc, _+_, _-_, _*_, _≤_}
 use native.Mathlib.Omega.{arith}
 use lib.ListN.{length, getD, take, drop, length-map}
-use lib.Seq.{take-at, drop-at, take-length, length-take-le, sets, length-sets}
+use lib.Seq.{take-length, sets}
 use Rattle.words.specs.Words.{bytes}
 use Rattle.words.proofs.Words.{length-bytes}
 use Rattle.types.specs.Rows.{widthOf}
@@ -24,6 +24,7 @@ use Rattle.chosen.proofs.Choices.{ascending-composed, chosenParts-compo
 use Rattle.chosen.proofs.Filled.{Filled, opened, filled}
 use Rattle.chosen.proofs.Kept.{room, kept}
 use Rattle.chosen.proofs.Sets.{sets-again, sets-swap}
+use Rattle.chosen.proofs.Sites.{take-chosenRecord, drop-chosenRecord}
 
 -- FORMAT fields chosen twice, at whatever place the chosen ones stand
 pub chosenFields-composed : (people n at at′ : ℕ) (cs ds l : List ℕ) → ascending people cs ≡ true
@@ -45,28 +46,10 @@ chosenFields-composed people (suc n) at at′ cs ds l p q h =
       chosenFields-composed people n (h .stop) _ cs ds (drop (h .stop - at) l) p q (h .rest),
     )
 
--- the site block of the chosen record ends where it did
-pub length-chosenSite : (t : Site) (cs s : List ℕ) (indiv : ℕ) → t .border ≤ length s → length (chosenSite t cs indiv s) ≡ t .border
-unfolding chosenSite
-length-chosenSite t cs s indiv h =
-    let T = take (t .border) s in
-    let a = bytes 4 indiv in
-    let b = bytes 4 (keptFormats cs (t .formats) * 16777216 + length cs) in
-    length-sets (sets T indivAt a) peopleAt b ∙ length-sets T indivAt a ∙ length-take-le (t .border) s h
-
--- the blocks of the chosen record
-pub site-chosenRecord : (t : Site) (cs s : List ℕ) → t .border ≤ length s
-    → take (t .border) (chosenRecord t cs s) ≡ chosenSite t cs (length (chosenBlock t cs s)) s
-unfolding chosenRecord
-site-chosenRecord t cs s h = take-at _ (chosenBlock t cs s) (t .border) (length-chosenSite t cs s (length (chosenBlock t cs s)) h)
-
+-- the genotype block of the chosen record
 pub block-chosenRecord : (t : Site) (cs s : List ℕ) → t .border ≤ length s
     → drop (t .border) (take (length (chosenRecord t cs s)) (chosenRecord t cs s)) ≡ chosenBlock t cs s
-unfolding chosenRecord
-block-chosenRecord t cs s h =
-    ap (drop (t .border)) (take-length (chosenRecord t cs s))
-    ∙ drop-at (chosenSite t cs (length (chosenBlock t cs s)) s) (chosenBlock t cs s) (t .border)
-    (length-chosenSite t cs s (length (chosenBlock t cs s)) h)
+block-chosenRecord t cs s h = ap (drop (t .border)) (take-length (chosenRecord t cs s)) ∙ drop-chosenRecord t cs s h
 
 -- what is kept of what is kept
 kept-composed : (cs ds : List ℕ) (formats : ℕ) → ascending (length cs) ds ≡ true
@@ -108,7 +91,7 @@ site-again : (t : Site) (cs ds s : List ℕ) (indiv : ℕ) → t .border ≤ len
     → chosenSite (releasedSite cs s t) ds indiv (chosenRecord t cs s) ≡ chosenSite t (composed cs ds) indiv s
 unfolding chosenSite
 site-again t cs ds s indiv b q =
-    let e : take (t .border) (chosenRecord t cs s) ≡ chosenSite t cs (length (chosenBlock t cs s)) s = site-chosenRecord t cs s b in
+    let e : take (t .border) (chosenRecord t cs s) ≡ chosenSite t cs (length (chosenBlock t cs s)) s = take-chosenRecord t cs s b in
     rw (e, kept-composed cs ds (t .formats) q, length-map ds (λ d. getD cs d 0))
     (stores-again (take (t .border) s) (length (chosenBlock t cs s)) (keptFormats cs (t .formats) * 16777216 + length cs) indiv
     (keptFormats (composed cs ds) (t .formats) * 16777216 + length ds))

@@ -5,7 +5,7 @@ use mathlib.Core.List.{List, [], _∷_, _++_, append-assoc}
 use mathlib.Core.Bool.{Bool, true, false}
 use Prim.Native.Nat.{ℕ, zero, suc, _+_, _-_, _*_, _≤_}
 use native.Mathlib.Omega.{arith}
-use native.Mathlib.Nat.{mul-assoc, mul-zero, zero-mul, mul-le-mul-right}
+use native.Mathlib.Nat.{mul-assoc, mul-zero, zero-mul}
 use lib.Dec.{eqb}
 use lib.ListN.{length, take, drop, length-append, length-drop}
 use lib.Seq.{length-take-le, take-at, drop-at}
@@ -31,8 +31,8 @@ use Rattle.fetch.proofs.Inside.{keyed-inside, drop-past}
 use Rattle.fetch.proofs.FormatFields.{format-there}
 use Rattle.choose.specs.Choice.{ascending, chosenParts}
 use Rattle.choose.specs.Chosen.{chosenFields}
-use Rattle.choose.proofs.Choice.{length-ascending}
-use Rattle.chosen.proofs.Fronts.{keyed-front, present-typed, take-past}
+use Rattle.choose.proofs.There.{present-typed}
+use Rattle.chosen.proofs.Fronts.{keyed-front, take-past}
 use Rattle.chosen.proofs.Judging.{chosenParts-take}
 use Rattle.chosen.proofs.Fields.{length-chosen, sound-chosenParts}
 
@@ -156,26 +156,6 @@ formats-chosenField strings people gt alleles n earlier known known′ at at′ 
     ap (drop (stop′ - next′)) (sym (append-assoc (take (first - next) l1) els m)) ∙ drop-at (take (first - next) l1 ++ els) m (stop′ - next′)
     (rw (length-append, x, length-take-le (first - next) l1 (rw length-drop (omega arith))) (omega arith)) in
     rw (split, keyed-front strings at at′ l rest (j .key) next (j .number), j .once, d, s, y, z)
-
--- at most as many bytes as everybody's
-pub length-chosenFields : (strings people gt alleles n : ℕ) (earlier : List ℕ) (known : Gt) (at : ℕ) (l cs : List ℕ) {g : Gt}
-    → ascending people cs ≡ true → formats strings people gt alleles n earlier known at l ≡ Sound g
-    → length (chosenFields people cs n at l) ≤ length l
-unfolding chosenFields
-length-chosenFields strings people gt alleles zero earlier known at l cs c h = omega arith
-length-chosenFields strings people gt alleles (suc n) earlier known at l cs c h =
-    let j = formats-field strings people gt alleles n earlier known at l h in
-    let a = j .keyLater in
-    let b = j .later in
-    let d = j .ends in
-    let e = j .inside in
-    let r = rw (length-drop (j .stop - at) l) at (length-chosenFields strings people gt alleles n _ _ (j .stop) (drop (j .stop - at) l) cs c (j .on)) in
-    let x = length-judged strings people gt alleles n earlier known at l cs c j in
-    let z = length-ascending 0 people cs c in
-    let k : length cs ≤ people = omega arith in
-    let y : length cs * j .len * widthOf (j .code) ≤ people * j .len * widthOf (j .code) =
-    mul-le-mul-right (widthOf (j .code)) (mul-le-mul-right (j .len) k) in
-    rw (j .field, length-append, length-append, x, length-take-le (j .first - at) l (omega arith)) (omega arith)
 
 -- GT in a record and in the chosen one: the same type and length, all elements there, and in the chosen one those of the chosen people
 pub record SameGt (people : ℕ) (cs s s′ : List ℕ) (g g′ : Gt) : Type 0 where

@@ -9,7 +9,7 @@ use lib.ListN.{length, getD, take, drop, length-drop}
 use lib.Seq.{drop-drop, take-add, take-at, drop-at, length-take-le}
 use borrow.Author.Tests.{le-ltb, lt-leb}
 use Rattle.choose.specs.Choice.{ascendingFrom, ascending, chosenParts}
-use Rattle.choose.proofs.Choice.{Ascends, ascends, part-inside}
+use Rattle.choose.proofs.Choice.{Ascends, ascends, part-inside, ascending-below}
 use Rattle.chosen.specs.Releases.{peopleFrom, everybody, composed}
 
 -- a person before a choice that ascends from there on
@@ -37,7 +37,7 @@ chosenParts-peopleFrom size k (suc n) l =
 pub chosenParts-everybody : {A : Type 0} (size n : ℕ) (l : List A) → chosenParts size (everybody n) l ≡ take (n * size) l
 chosenParts-everybody size n l = rw (zero-mul size) at (chosenParts-peopleFrom size 0 n l)
 
--- the persons of a choice: from the least on, below the people, each higher than those before
+-- the persons of a choice: from the least on, each higher than those before
 getD-from : (least people : ℕ) (cs : List ℕ) (i : ℕ) → ascendingFrom least people cs ≡ true → i < length cs → least ≤ getD cs i 0
 getD-from least people [] i h q = absurd (omega arith)
 getD-from least people (c ∷ cs) zero h q = ascends least people c cs h .from
@@ -46,11 +46,6 @@ getD-from least people (c ∷ cs) (suc i) h q =
     let x = a .from in
     let r = getD-from (suc c) people cs i (a .rest) (omega arith) in
     omega arith
-
-getD-below : (least people : ℕ) (cs : List ℕ) (i : ℕ) → ascendingFrom least people cs ≡ true → i < length cs → getD cs i 0 < people
-getD-below least people [] i h q = absurd (omega arith)
-getD-below least people (c ∷ cs) zero h q = ascends least people c cs h .below
-getD-below least people (c ∷ cs) (suc i) h q = getD-below (suc c) people cs i (ascends least people c cs h .rest) (omega arith)
 
 getD-higher : (least people : ℕ) (cs : List ℕ) (i j : ℕ) → ascendingFrom least people cs ≡ true → i < j → j < length cs
     → getD cs i 0 < getD cs j 0
@@ -66,7 +61,7 @@ unfolding ascendingFrom
 composed-from people k least cs [] h a low = refl
 composed-from people k least cs (d ∷ ds) h a low =
     let b = ascends k (length cs) d ds a in
-    ascending-cons least people (getD cs d 0) (composed cs ds) (low d (b .from) (b .below)) (getD-below 0 people cs d h (b .below))
+    ascending-cons least people (getD cs d 0) (composed cs ds) (low d (b .from) (b .below)) (ascending-below 0 people d cs h (b .below))
     (composed-from people (suc d) (suc (getD cs d 0)) cs ds h (b .rest) (λ j p q. getD-higher 0 people cs d j h p q))
 
 -- a choice from a choice is a choice

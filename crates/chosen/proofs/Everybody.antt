@@ -1,6 +1,6 @@
 -- Choosing everybody gives the record back, byte by byte. Rests on proofs/Filled and on words' laws of written numbers.
 use mathlib.Core.Path.{_≡_, refl, sym}
-use mathlib.Core.List.{List, [], _∷_}
+use mathlib.Core.List.{List}
 use Prim.Native.Nat.{ℕ, zero, suc, _+_, _-_, _*_, _≤_}
 use native.Mathlib.Omega.{arith}
 use native.Mathlib.Nat.{mul-assoc}
@@ -20,6 +20,7 @@ use Rattle.choose.specs.Chosen.{chosenFields, keptFormats, chosenBlock, chosenS
 use Rattle.chosen.specs.Releases.{peopleFrom, everybody}
 use Rattle.chosen.proofs.Filled.{Filled, opened, filled}
 use Rattle.chosen.proofs.Choices.{length-peopleFrom, chosenParts-everybody}
+use Rattle.chosen.proofs.Stored.{Bytes-drop, Bytes-take}
 
 -- everybody's FORMAT fields are all bytes of those that fill a list
 pub chosenFields-everybody : (people n at : ℕ) (l : List ℕ) → Filled people n at l → chosenFields people (everybody people) n at l ≡ l
@@ -42,17 +43,6 @@ chosenFields-everybody people (suc n) at l h =
       take-append-drop (h .stop - h .first) m,
     )
     (take-append-drop (h .first - at) l)
-
--- parts of bytes are bytes
-Bytes-take : (n : ℕ) (l : List ℕ) → Bytes l → Bytes (take n l)
-Bytes-take zero l h = tt
-Bytes-take (suc n) [] h = tt
-Bytes-take (suc n) (b ∷ l) h = (h .0, Bytes-take n l (h .1))
-
-Bytes-drop : (n : ℕ) (l : List ℕ) → Bytes l → Bytes (drop n l)
-Bytes-drop zero l h = h
-Bytes-drop (suc n) [] h = tt
-Bytes-drop (suc n) (b ∷ l) h = Bytes-drop n l (h .1)
 
 -- a fixed field that is written as it was read leaves the bytes as they were
 sets-field : (at end : ℕ) (s : List ℕ) → Bytes s → at + 4 ≤ end → end ≤ length s → sets (take end s) at (bytes 4 (field at s)) ≡ take end s

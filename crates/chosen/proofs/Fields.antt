@@ -19,7 +19,8 @@ use Rattle.vectors.specs.declared.Judged.the-variants.{Sound, Refused as Unsoun
 use Rattle.fetch.proofs.Agree.{sound-there}
 use Rattle.choose.specs.Choice.{ascending, chosenParts}
 use Rattle.choose.proofs.Choice.{length-chosenParts}
-use Rattle.chosen.proofs.Fronts.{present-typed, present-front}
+use Rattle.choose.proofs.There.{present-typed}
+use Rattle.chosen.proofs.Fronts.{present-front}
 use Rattle.chosen.proofs.Judging.{chosenParts-take, judged-chosenParts}
 
 -- a sound value's elements are judged sound

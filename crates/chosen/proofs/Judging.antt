@@ -1,5 +1,5 @@
--- Elements of everybody that are judged sound are sound for the chosen people. Rests on vectors' judging and on the choice.
-use mathlib.Core.Path.{_≡_, refl, _∙_, ap, sym}
+-- Elements of everybody that are judged sound are sound for the chosen people. Rests on vectors' judging and on proofs/Numbers.
+use mathlib.Core.Path.{_≡_, refl}
 use mathlib.Core.List.{List, [], _∷_, _++_}
 use mathlib.Core.Bool.{Bool, true, false}
 use Prim.Native.Nat.{ℕ, zero, suc, _+_, _*_, _/_, _<_, _≤_}
@@ -7,8 +7,7 @@ use native.Mathlib.Omega.{arith}
 use native.Mathlib.Nat.{suc-mul, zero-mul, mul-comm, mul-zero, zero-div, div-div-eq-div-mul, div-eq-of-eq-mul-left}
 use lib.Dec.{ltb}
 use lib.ListN.{length, take, drop, length-drop}
-use lib.Seq.{length-take-le, take-nil, take-at, drop-at, take-take, drop-drop}
-use Rattle.words.specs.Words.{number}
+use lib.Seq.{length-take-le, take-at, drop-at, drop-drop}
 use Rattle.types.specs.Rows.{widthOf}
 use Rattle.types.specs.Elements.{kind}
 use Rattle.types.specs.declared.Element.{Element}
@@ -19,6 +18,7 @@ use Rattle.vectors.specs.declared.Judged.the-variants.{Sound, Refused as Unsoun
 use Rattle.fetch.proofs.Bytes.{part-of}
 use Rattle.choose.specs.Choice.{ascendingFrom, chosenParts}
 use Rattle.choose.proofs.Choice.{ascends, part-inside, length-chosenParts}
+use Rattle.chosen.proofs.Numbers.{numbers-take}
 
 -- a vector that is sound at one place is sound at any
 vector-anywhere : (most t w at at′ : ℕ) (e : Bool) (xs : List ℕ) → vector most t w at e xs ≡ Sound → vector most t w at′ e xs ≡ Sound
@@ -61,23 +61,10 @@ vectors-person most t w len (suc n) at at′ (suc c) l h s =
     let e : size + c * size ≡ suc c * size = omega (arith, suc-mul c size) in
     rw (drop-drop (c * size) size l, e) at (vectors-person most t w len n (at + size) at′ c (drop size l) (omega arith) on)
 
-drop-take : {A : Type 0} (n m : ℕ) (l : List A) → drop n (take (n + m) l) ≡ take m (drop n l)
-drop-take zero m l = let e : zero + m ≡ m = omega arith in rw e
-drop-take {A} (suc n) m [] = let e : suc n + m ≡ suc (n + m) = omega arith in rw (e, take-nil {A = A} m)
-drop-take (suc n) m (x ∷ l) = let e : suc n + m ≡ suc (n + m) = omega arith in rw e (drop-take n m l)
-
 -- the numbers at the front of a list are those of its bytes, whatever follows
-numbers-take : (w n : ℕ) (l : List ℕ) → numbers w n (take (n * w) l) ≡ numbers w n l
-unfolding numbers number
-numbers-take w zero l = refl
-numbers-take w (suc n) l =
-    let e : suc n * w ≡ w + n * w = omega (arith, suc-mul n w) in
-    rw (e, take-take w (w + n * w) l (omega arith), drop-take w (n * w) l, numbers-take w n (drop w l))
-
 numbers-front : (w n : ℕ) (l m : List ℕ) → n * w ≤ length l → numbers w n (take (n * w) l ++ m) ≡ numbers w n l
 numbers-front w n l m h =
-    let e : take (n * w) (take (n * w) l ++ m) ≡ take (n * w) l = take-at (take (n * w) l) m (n * w) (length-take-le (n * w) l h) in
-    sym (numbers-take w n (take (n * w) l ++ m)) ∙ ap (numbers w n) e ∙ numbers-take w n l
+    numbers-take w n (take (n * w) l ++ m) l (take-at (take (n * w) l) m (n * w) (length-take-le (n * w) l h))
 
 -- so people chosen from them are sound
 vectors-chosenParts : (most t w len least people at : ℕ) (cs l : List ℕ) → ascendingFrom least people cs ≡ true → people * (len * w) ≤ length l

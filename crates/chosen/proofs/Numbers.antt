@@ -15,7 +15,7 @@ use Rattle.choose.specs.Choice.{ascendingFrom, chosenParts}
 use Rattle.choose.proofs.Choice.{ascends, part-inside}
 
 -- past the front of a part that goes on behind it
-pub drop-take : {A : Type 0} (w k : ℕ) (l : List A) → drop w (take (w + k) l) ≡ take k (drop w l)
+drop-take : {A : Type 0} (w k : ℕ) (l : List A) → drop w (take (w + k) l) ≡ take k (drop w l)
 drop-take zero k l = rw (zero-add k)
 drop-take {A} (suc w) k [] = rw (take-nil {A = A} (suc w + k), take-nil {A = A} k)
 drop-take (suc w) k (x ∷ l) = rw (suc-add w k) (drop-take w k l)

@@ -1,5 +1,5 @@
 -- The chosen record shows what the chosen people show: the site as it was, and their elements of each FORMAT field. Rests on proofs/Filled,
--- proofs/Fronts and proofs/Numbers.
+-- proofs/Kept, proofs/Numbers and proofs/Sites.
 use mathlib.Core.Path.{_≡_, refl, sym, _∙_, ap}
 use mathlib.Core.List.{List, [], _∷_, _++_, map}
 use mathlib.Core.Bool.{true}
@@ -7,16 +7,14 @@ use Prim.Native.Nat.{ℕ, zero, suc, _+_, _-_, _*_, _/_, _<_, _≤_}
 use native.Mathlib.Omega.{arith}
 use native.Mathlib.Nat.{mul-zero, mul-div-cancel}
 use lib.ListN.{length, take, drop}
-use lib.Seq.{take-nil, drop-nil, sets}
-use Rattle.words.specs.Words.{bytes}
-use Rattle.words.proofs.Words.{length-bytes}
+use lib.Seq.{take-nil, drop-nil}
 use Rattle.types.specs.Rows.{widthOf}
 use Rattle.types.specs.declared.Use.the-variants.{Format, Id, Allele, Filter}
 use Rattle.values.specs.Values.{present}
 use Rattle.values.specs.declared.Value.{Value}
 use Rattle.values.specs.declared.Value.the-variants.{Present, Refused as NoValue}
 use Rattle.vectors.specs.Vectors.{shownNumbers}
-use Rattle.fixed.specs.Layout.{indivAt, peopleAt, idAt}
+use Rattle.fixed.specs.Layout.{idAt}
 use Rattle.fixed.specs.declared.Facts.{Facts}
 use Rattle.fixed.specs.declared.Site.{Site}
 use Rattle.genotypes.specs.declared.Gt.{Gt}
@@ -27,14 +25,14 @@ use Rattle.fetch.specs.Fetch.{paired}
 use Rattle.fetch.specs.declared.Found.the-variants.{Field}
 use Rattle.fetch.proofs.Inside.{drop-past}
 use Rattle.choose.specs.Choice.{ascending, chosenParts}
-use Rattle.choose.specs.Chosen.{chosenFields, keptFormats, chosenBlock, chosenSite, chosenRecord}
+use Rattle.choose.specs.Chosen.{chosenFields, keptFormats, chosenBlock, chosenRecord}
+use Rattle.choose.proofs.There.{paired-keyed, present-typed}
 use Rattle.chosen.specs.Releases.{releasedSite, releasedField, releasedFields, released}
 use Rattle.chosen.proofs.Filled.{Filled, opened, filled}
-use Rattle.chosen.proofs.Fronts.{paired-keyed, present-typed}
 use Rattle.chosen.proofs.Kept.{room, kept}
 use Rattle.chosen.proofs.Numbers.{shownNumbers-chosenParts}
-use Rattle.chosen.proofs.Again.{site-chosenRecord, block-chosenRecord}
-use Rattle.chosen.proofs.Sets.{drop-sets}
+use Rattle.chosen.proofs.Again.{block-chosenRecord}
+use Rattle.chosen.proofs.Sites.{drop-chosenSite, take-chosenRecord}
 
 fieldsShown-none : (people at : ℕ) (l : List ℕ) → fieldsShown people zero at l ≡ []
 unfolding fieldsShown
@@ -106,17 +104,6 @@ kept-shown : (people formats at : ℕ) (cs l : List ℕ) → ascending people cs
 kept-shown people formats at [] l p h = fieldsShown-none 0 at _
 kept-shown people formats at (c ∷ cs) l p h = fieldsShown-chosenFields people formats at at (c ∷ cs) l p h
 
--- the site block from ID on is as it was
-site-kept : (t : Site) (cs s : List ℕ) (indiv : ℕ) → drop idAt (chosenSite t cs indiv s) ≡ drop idAt (take (t .border) s)
-unfolding chosenSite
-site-kept t cs s indiv =
-    let T = take (t .border) s in
-    let a = bytes 4 indiv in
-    let count = keptFormats cs (t .formats) * 16777216 + length cs in
-    let x = length-bytes 4 indiv in
-    let y = length-bytes 4 count in
-    drop-sets (bytes 4 count) (sets T indivAt a) peopleAt idAt (omega arith) ∙ drop-sets a T indivAt idAt (omega arith)
-
 -- what is shown, through a function of it
 showing-through : {A B : Type 0} (f : A → B) (at : ℕ) (l : List ℕ) (none : A) (next : ℕ → ℕ → List ℕ → ℕ → List ℕ → A) (none′ : B)
     (next′ : ℕ → ℕ → List ℕ → ℕ → List ℕ → B) (v : Value) → none′ ≡ f none
@@ -153,7 +140,7 @@ shownOf-chosenRecord f s t g cs h p =
     let b : t .border ≤ length s = omega arith in
     let block = drop idAt (take (t .border) s) in
     let same : drop idAt (take (t .border) (chosenRecord t cs s)) ≡ block =
-    ap (drop idAt) (site-chosenRecord t cs s b) ∙ site-kept t cs s (length (chosenBlock t cs s)) in
+    ap (drop idAt) (take-chosenRecord t cs s b) ∙ drop-chosenSite t cs (length (chosenBlock t cs s)) s in
     let fields = kept-shown (t .people) (t .formats) (t .border) cs (drop (t .border) (take (t .length) s)) p (filled f s t g h) in
     let none = nothing-released t cs s in
     rw (same, block-chosenRecord t cs s b, fields)

@@ -1,32 +1,26 @@
 -- The front and the site block of the chosen record: all is as it was but l_indiv and the people count. Rests on proofs/Stored,
--- proofs/Fixed and specs/Chosen of choose.
+-- proofs/Sets, and choose's facts about the front.
 use mathlib.Core.Path.{_≡_, refl, _∙_}
 use mathlib.Core.List.{List, [], _∷_}
 use mathlib.Core.Bool.{Bool, true, false}
-use Prim.Native.Nat.{ℕ, zero, suc, _+_, _-_, _*_, _≤_, _<_, _^_}
+use Prim.Native.Nat.{ℕ, suc, _+_, _-_, _*_, _≤_, _<_, _^_}
 use native.Mathlib.Omega.{arith}
 use lib.Dec.{eqb, ltb}
-use lib.ListN.{length, take, drop, length-append, length-drop}
+use lib.ListN.{length, take, drop}
 use lib.Seq.{sets, length-sets, length-take-le, take-at, drop-at}
-use borrow.Author.Tests.{eqb-true, eq-eqb, ne-eqb}
+use borrow.Author.Tests.{ltb-false, eqb-true, eq-eqb, ne-eqb}
 use Rattle.words.specs.Pick.{pick}
-use Rattle.words.specs.Words.{number, bytes, Bytes}
-use Rattle.words.proofs.Words.{le-bound, length-bytes}
+use Rattle.words.specs.Words.{bytes, Bytes}
+use Rattle.words.proofs.Words.{length-bytes}
 use Rattle.fixed.specs.Layout.{indivAt, chromAt, posAt, rlenAt, countsAt, peopleAt, qualAt, idAt, field, peopleWrong}
 use Rattle.fixed.specs.declared.Facts.{Facts}
 use Rattle.fixed.specs.declared.Site.{Site}
 use Rattle.choose.specs.Chosen.{keptFormats, chosenBlock, chosenSite, chosenRecord}
+use Rattle.choose.proofs.Fixed.{Fits}
+use Rattle.choose.proofs.Written.{length-chosenSite, length-chosenRecord}
 use Rattle.chosen.specs.Releases.{forPeople, releasedSite}
-use Rattle.chosen.proofs.Stored.{drop-sets, field-take, field-elsewhere, field-stored, field-append}
-use Rattle.chosen.proofs.Fixed.{Fits}
-
-pub length-chosenSite : (t : Site) (cs : List ℕ) (n : ℕ) (s : List ℕ) → t .border ≤ length s → length (chosenSite t cs n s) ≡ t .border
-unfolding chosenSite
-length-chosenSite t cs n s h =
-    rw (
-      length-sets (sets (take (t .border) s) indivAt (bytes 4 n)) peopleAt (bytes 4 (keptFormats cs (t .formats) * 16777216 + length cs)),
-      length-sets (take (t .border) s) indivAt (bytes 4 n),
-    ) (length-take-le (t .border) s h)
+use Rattle.chosen.proofs.Sets.{drop-sets}
+use Rattle.chosen.proofs.Stored.{field-take, field-elsewhere, field-stored, field-append, field-bound}
 
 -- the bytes from ID on stay
 pub drop-chosenSite : (t : Site) (cs : List ℕ) (n : ℕ) (s : List ℕ) → drop idAt (chosenSite t cs n s) ≡ drop idAt (take (t .border) s)
@@ -36,7 +30,7 @@ drop-chosenSite t cs n s =
     let l = take (t .border) s in
     let a = length-bytes 4 n in
     let b = length-bytes 4 members in
-    drop-sets idAt (sets l indivAt (bytes 4 n)) peopleAt (bytes 4 members) (omega arith) ∙ drop-sets idAt l indivAt (bytes 4 n) (omega arith)
+    drop-sets (bytes 4 members) (sets l indivAt (bytes 4 n)) peopleAt idAt (omega arith) ∙ drop-sets (bytes 4 n) l indivAt idAt (omega arith)
 
 -- so do the fields but the two
 field-chosenSite : (t : Site) (cs : List ℕ) (n : ℕ) (s : List ℕ) (p : ℕ) → 4 ≤ indivAt - p + (p - indivAt) → 4 ≤ peopleAt - p + (p - peopleAt)
@@ -72,12 +66,6 @@ people-chosenSite t cs n s h k b =
     field-stored peopleAt (keptFormats cs (t .formats) * 16777216 + length cs) (sets l indivAt (bytes 4 n)) (omega arith) b
 
 -- the chosen record is its site and its genotype block
-pub length-chosenRecord : (t : Site) (cs s : List ℕ) → t .border ≤ length s → length (chosenRecord t cs s) ≡ t .border + length (chosenBlock t cs s)
-unfolding chosenRecord
-length-chosenRecord t cs s h =
-    let n = length (chosenBlock t cs s) in
-    rw (length-append (chosenSite t cs n s) (chosenBlock t cs s), length-chosenSite t cs n s h)
-
 pub take-chosenRecord : (t : Site) (cs s : List ℕ) → t .border ≤ length s
     → take (t .border) (chosenRecord t cs s) ≡ chosenSite t cs (length (chosenBlock t cs s)) s
 unfolding chosenRecord
@@ -99,32 +87,15 @@ field-chosenRecord t cs s p h k =
     let e = length-chosenSite t cs n s h in
     field-append p (chosenSite t cs n s) (chosenBlock t cs s) (omega arith)
 
--- the FORMAT fields are counted in one byte
-Bytes-drop : (n : ℕ) (l : List ℕ) → Bytes l → Bytes (drop n l)
-Bytes-drop zero l b = b
-Bytes-drop (suc n) [] b = b
-Bytes-drop (suc n) (x ∷ l) b = Bytes-drop n l (b .1)
-
-Bytes-take : (n : ℕ) (l : List ℕ) → Bytes l → Bytes (take n l)
-Bytes-take zero l b = tt
-Bytes-take (suc n) [] b = b
-Bytes-take (suc n) (x ∷ l) b = (b .0, Bytes-take n l (b .1))
-
-pub field-bound : (p : ℕ) (s : List ℕ) → Bytes s → p + 4 ≤ length s → field p s < 2 ^ 32
-unfolding field number
-field-bound p s b h =
-    let l = take 4 (drop p s) in
-    let e : length l ≡ 4 = length-take-le 4 (drop p s) (rw length-drop (omega arith)) in
-    rw e at (le-bound l (Bytes-take 4 (drop p s) (Bytes-drop p s b)))
-
 -- the people are as many as are given, and of nobody there are no FORMAT fields
-pub people-given : (given formats people : ℕ) → peopleWrong given formats people ≡ false → people ≡ given
+pub people-given : (given formats people : ℕ) → peopleWrong given formats people ≡ false → (people ≡ given) × (people ≡ 0 → formats ≡ 0)
 unfolding peopleWrong
 people-given given formats people h = by-test (eqb people given) refl h
   where
-    by-test : (b : Bool) → eqb people given ≡ b → pick b (pick (eqb people 0) (ltb 0 formats) false) true ≡ false → people ≡ given
-    by-test true e k = eqb-true people given e
-    by-test false e k = cc
+    by-test : (b : Bool) → eqb people given ≡ b → pick b (pick (eqb people 0) (ltb 0 formats) false) true ≡ false
+        → (people ≡ given) × (people ≡ 0 → formats ≡ 0)
+    by-test true e k = (eqb-true people given e, λ z. let o = ltb-false 0 formats (rw (eq-eqb people 0 z) at k) in omega arith)
+    by-test false e k = let z : _≡_ {A = ℕ} 0 1 = cc in absurd (omega arith)
 
 people-right : (cs : List ℕ) (formats : ℕ) → peopleWrong (length cs) (keptFormats cs formats) (length cs) ≡ false
 unfolding peopleWrong

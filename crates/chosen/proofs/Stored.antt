@@ -1,26 +1,24 @@
--- Four bytes stored in a list: what stands there and what stands elsewhere. Rests on the layout and on words' numbers.
+-- Four bytes stored in a list: what stands there and what stands elsewhere. Rests on the layout, on words' numbers and on
+-- proofs/Sets.
 use mathlib.Core.Path.{_≡_, refl, sym, _∙_, ap}
 use mathlib.Core.List.{List, [], _∷_, _++_, append-assoc}
 use mathlib.Core.Bool.{Bool, true, false}
-use Prim.Native.Nat.{ℕ, suc, _+_, _-_, _≤_, _<_, _^_}
+use Prim.Native.Nat.{ℕ, zero, suc, _+_, _-_, _≤_, _<_, _^_}
 use native.Mathlib.Omega.{arith}
 use lib.Dec.{leb}
-use lib.ListN.{length, take, drop, set}
-use lib.Seq.{sets, sets-eq, take-set-le, drop-set-lt, take-append-le, length-take-le, drop-at}
+use lib.ListN.{length, take, drop, set, length-drop}
+use lib.Seq.{sets, sets-eq, take-set-le, take-append-le, length-take-le, drop-at}
 use borrow.Author.Tests.{leb-true, leb-false}
-use Rattle.words.specs.Words.{number, bytes}
-use Rattle.words.proofs.Words.{length-bytes, number-bytes}
+use Rattle.words.specs.Words.{number, bytes, Bytes}
+use Rattle.words.proofs.Words.{le-bound, length-bytes, number-bytes}
 use Rattle.fixed.specs.Layout.{field}
 use Rattle.fetch.proofs.Bytes.{part-of}
+use Rattle.chosen.proofs.Sets.{drop-sets}
 
--- a store leaves what stands before it and after it
-pub take-sets : (n : ℕ) (l : List ℕ) (i : ℕ) (vs : List ℕ) → n ≤ i → take n (sets l i vs) ≡ take n l
+-- a store leaves what stands before it
+take-sets : (n : ℕ) (l : List ℕ) (i : ℕ) (vs : List ℕ) → n ≤ i → take n (sets l i vs) ≡ take n l
 take-sets n l i [] h = refl
 take-sets n l i (v ∷ vs) h = take-sets n (set l i v) (suc i) vs (omega arith) ∙ take-set-le n l i v h
-
-pub drop-sets : (n : ℕ) (l : List ℕ) (i : ℕ) (vs : List ℕ) → i + length vs ≤ n → drop n (sets l i vs) ≡ drop n l
-drop-sets n l i [] h = refl
-drop-sets n l i (v ∷ vs) h = drop-sets n (set l i v) (suc i) vs (omega arith) ∙ drop-set-lt n l i v (omega arith)
 
 -- a field is its four bytes
 field-part : (p : ℕ) (l m : List ℕ) → take 4 (drop p l) ≡ take 4 (drop p m) → field p l ≡ field p m
@@ -35,7 +33,7 @@ field-before p i l vs h =
     sym (field-take p i (sets l i vs) h) ∙ ap (field p) (take-sets i l i vs (omega arith)) ∙ field-take p i l h
 
 field-after : (p i : ℕ) (l vs : List ℕ) → i + length vs ≤ p → field p (sets l i vs) ≡ field p l
-field-after p i l vs h = field-part p (sets l i vs) l (ap (take 4) (drop-sets p l i vs h))
+field-after p i l vs h = field-part p (sets l i vs) l (ap (take 4) (drop-sets vs l i p h))
 
 -- a store of at most four bytes leaves a field that stands four or more places away, on either side
 pub field-elsewhere : (p i : ℕ) (l vs : List ℕ) → length vs ≤ 4 → 4 ≤ i - p + (p - i) → field p (sets l i vs) ≡ field p l
@@ -57,3 +55,22 @@ field-stored i v l h b =
 pub field-append : (p : ℕ) (l m : List ℕ) → p + 4 ≤ length l → field p (l ++ m) ≡ field p l
 field-append p l m h =
     sym (field-take p (p + 4) (l ++ m) (omega arith)) ∙ ap (field p) (take-append-le (p + 4) l m h) ∙ field-take p (p + 4) l (omega arith)
+
+-- parts of bytes are bytes
+pub Bytes-drop : (n : ℕ) (l : List ℕ) → Bytes l → Bytes (drop n l)
+Bytes-drop zero l b = b
+Bytes-drop (suc n) [] b = b
+Bytes-drop (suc n) (x ∷ l) b = Bytes-drop n l (b .1)
+
+pub Bytes-take : (n : ℕ) (l : List ℕ) → Bytes l → Bytes (take n l)
+Bytes-take zero l b = tt
+Bytes-take (suc n) [] b = b
+Bytes-take (suc n) (x ∷ l) b = (b .0, Bytes-take n l (b .1))
+
+-- so a field is a number of 32 bits
+pub field-bound : (p : ℕ) (s : List ℕ) → Bytes s → p + 4 ≤ length s → field p s < 2 ^ 32
+unfolding field number
+field-bound p s b h =
+    let l = take 4 (drop p s) in
+    let e : length l ≡ 4 = length-take-le 4 (drop p s) (rw length-drop (omega arith)) in
+    rw e at (le-bound l (Bytes-take 4 (drop p s) (Bytes-drop p s b)))

@@ -1,17 +1,14 @@
 -- `choose::choose` meets its contract.
 use mathlib.Core.Path.{_≡_, _∙_, sym}
-use mathlib.Core.Bool.{true, false}
-use Prim.Native.Nat.{_+_, _<_, _≤_}
+use Prim.Native.Nat.{_<_, _≤_}
 use native.Mathlib.Omega.{arith}
 use lib.ListN.{length}
 use lib.Seq.{length-take-le}
 use borrow.Author.Tests.{lt-ltb, le-ltb}
-use Rattle.record.specs.Reading.{reading}
-use Rattle.choose.specs.Choice.{ascending}
 use Rattle.choose.specs.Chosen.{chosenBlock, chosenRecord}
 use Rattle.choose.specs.Choose.{choosing, afterChoosing}
 use Rattle.choose.proofs.Choice.{length-ascending}
-use Rattle.choose.proofs.People.{people-bound}
+use Rattle.choose.proofs.Fixed.{people-bound}
 use Rattle.choose.proofs.Written.{length-chosenRecord, size-block}
 use borrow.Author.Needs.{needs}
 use Rattle.choose.proofs.choose.Statement.{statement}

@@ -6,7 +6,8 @@ use lib.ListN.{length, drop}
 use Rattle.types.specs.Rows.{widthOf}
 use Rattle.types.specs.declared.Use.the-variants.{Format}
 use Rattle.choose.specs.Sizes.{fieldsSize}
-use Rattle.choose.proofs.Fields.{paired-stop, kept-parts, size-turn, size-none}
+use Rattle.choose.proofs.Fields.{kept-parts, size-turn, size-none}
+use Rattle.choose.proofs.There.{paired-stop}
 use borrow.Author.Needs.{needs}
 use Rattle.choose.proofs.fields_size.Statement.{statement}
 use Rattle.choose.proofs.fields_size.Tie as tie

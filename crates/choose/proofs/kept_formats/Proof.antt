@@ -1,6 +1,5 @@
 -- `choose::kept_formats` meets its contract.
 use Rattle.choose.proofs.Written.{kept-none, kept-some}
-use borrow.Author.Needs.{needs}
 use Rattle.choose.proofs.kept_formats.Statement.{statement}
 use Rattle.choose.proofs.kept_formats.Tie as tie
 use Rattle.choose.proofs.kept_formats.Reads as reads

@@ -1,7 +1,6 @@
 -- `choose::put_record` meets its contract.
 use mathlib.Core.Path.{_≡_, _∙_, sym}
 use native.Mathlib.Omega.{arith}
-use lib.ListN.{length}
 use lib.Seq.{length-take-le}
 use Rattle.choose.specs.Chosen.{chosenBlock}
 use Rattle.choose.proofs.Choice.{length-ascending}
