@@ -17,11 +17,11 @@ use Rattle.fetch.specs.Fetch.{paired}
 use Rattle.fetch.specs.declared.Found.{Found}
 use Rattle.fetch.specs.declared.Found.the-variants.{Field, Refused}
 use Rattle.fetch.proofs.Inside.{paired-inside}
+use Rattle.fetch.proofs.Present.{paired-stop}
 use Rattle.choose.specs.Choice.{ascending, chosenParts}
 use Rattle.choose.specs.Chosen.{chosenField, chosenFields}
 use Rattle.choose.specs.Sizes.{fieldSize, fieldsSize}
 use Rattle.choose.proofs.Choice.{length-chosenParts}
-use Rattle.choose.proofs.There.{paired-stop}
 
 -- some people's parts are no more than everybody's
 pub kept-parts : (kept people n w : ℕ) → kept ≤ people → kept * (n * w) ≤ people * n * w

@@ -1,5 +1,4 @@
--- The front of a record as facts about its fields, both ways, and that an accepted record has them. Rests on fixed's definitions and
--- on reading.
+-- The front of a record as facts about its fields, both ways. Rests on fixed's definitions and on what fetch says of reading.
 use mathlib.Core.Path.{_≡_, refl, ap}
 use mathlib.Core.List.{List}
 use mathlib.Core.Bool.{Bool, true, false}
@@ -19,13 +18,10 @@ use Rattle.fixed.specs.declared.Blocks.{Blocks}
 use Rattle.fixed.specs.declared.Blocks.the-variants.{Lent, Refused as NoBlocks}
 use Rattle.fixed.specs.declared.Fixed.{Fixed}
 use Rattle.fixed.specs.declared.Fixed.the-variants.{Site as Front, Refused as NoSite}
-use Rattle.site.specs.declared.Step.{Step}
-use Rattle.site.specs.declared.Step.the-variants.{At, Refused as NoStep}
 use Rattle.genotypes.specs.declared.Gt.{Gt}
-use Rattle.genotypes.specs.declared.Genotypes.{Genotypes}
-use Rattle.genotypes.specs.declared.Genotypes.the-variants.{Sound, Refused as NoGenotypes}
-use Rattle.record.specs.Reading.{reading, siteOf, genotypesOf, afterFixed, afterSite, afterGenotypes}
+use Rattle.record.specs.Reading.{reading}
 use Rattle.record.specs.declared.Reading.the-variants.{Accepted}
+use Rattle.fetch.proofs.There.{accepted}
 
 -- a list begins with a record's front whose site is t: where it lies, what its fields say, and that each keeps its rule
 pub record Fits (f : Facts) (s : List ℕ) (t : Site) : Type 0 where
@@ -168,23 +164,6 @@ fits-fixed f s t x =
       x .qualRight,
     )
 
--- an accepted record begins with its site's front
-pub accepted-front : (f : Facts) (s : List ℕ) (t : Site) (g : Gt) → reading f s ≡ Accepted t g → fixed f s ≡ Front t
-unfolding reading
-accepted-front f s t g h = by-front (fixed f s) h
-  where
-    by-genotypes : (t′ : Site) (x : Genotypes) → afterGenotypes t′ x ≡ Accepted t g → Front t′ ≡ Front t
-    by-genotypes t′ (NoGenotypes r) e = cc
-    by-genotypes t′ (Sound g′) e = cc
-
-    by-site : (t′ : Site) (p : Step) → afterSite f t′ s p ≡ Accepted t g → Front t′ ≡ Front t
-    by-site t′ (NoStep r) e = cc
-    by-site t′ (At q) e = by-genotypes t′ (genotypesOf f t′ s) e
-
-    by-front : (x : Fixed) → afterFixed f s x ≡ Accepted t g → x ≡ Front t
-    by-front (NoSite r) e = cc
-    by-front (Front t′) e = by-site t′ (siteOf f t′ s) e
-
--- so it has fewer than 16,777,216 people
+-- an accepted record has fewer than 16,777,216 people
 pub people-bound : (f : Facts) (s : List ℕ) (t : Site) (g : Gt) → reading f s ≡ Accepted t g → t .people < 16777216
-people-bound f s t g h = let e = fixed-fits f s t (accepted-front f s t g h) .people in omega arith
+people-bound f s t g h = let e = fixed-fits f s t (accepted f s t g h .front) .people in omega arith

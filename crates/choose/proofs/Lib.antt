@@ -2,5 +2,4 @@ pub mod Choice
 pub mod Fields
 pub mod Fixed
 pub mod Stretches
-pub mod There
 pub mod Written

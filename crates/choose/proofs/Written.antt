@@ -17,6 +17,7 @@ use Rattle.fixed.specs.Layout.{indivAt, peopleAt, idAt}
 use Rattle.fixed.specs.declared.Site.{Site}
 use Rattle.fetch.specs.Fetch.{paired}
 use Rattle.fetch.specs.declared.Found.the-variants.{Field}
+use Rattle.fetch.proofs.Present.{paired-stop}
 use Rattle.stores.specs.Stores.{filled}
 use Rattle.stores.proofs.Inside.{sets-inside}
 use Rattle.stores.proofs.Room.{filled-room}
@@ -25,7 +26,6 @@ use Rattle.choose.specs.Chosen.{keptFormats, chosenFields, chosenBlock, 
 use Rattle.choose.specs.Sizes.{fieldsSize}
 use Rattle.choose.proofs.Choice.{length-chosenParts}
 use Rattle.choose.proofs.Fields.{fields-turn, length-chosenFields}
-use Rattle.choose.proofs.There.{paired-stop}
 
 -- of nobody no field is kept, of somebody all are
 pub kept-none : (cs : List ℕ) (formats : ℕ) → length cs ≡ 0 → keptFormats cs formats ≡ 0

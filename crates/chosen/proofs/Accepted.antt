@@ -22,7 +22,7 @@ use Rattle.choose.specs.Choice.{ascending}
 use Rattle.choose.specs.Chosen.{chosenFields, keptFormats, chosenBlock, chosenRecord}
 use Rattle.choose.proofs.Choice.{length-ascending}
 use Rattle.choose.proofs.Fields.{size-inside}
-use Rattle.choose.proofs.Fixed.{Fits, accepted-front, fixed-fits, fits-fixed}
+use Rattle.choose.proofs.Fixed.{Fits, fixed-fits, fits-fixed}
 use Rattle.choose.proofs.Written.{length-chosenRecord, size-block}
 use Rattle.chosen.specs.Releases.{forPeople, releasedSite}
 use Rattle.chosen.proofs.Blocks.{SameGt, no-gt, formats-none, formats-chosenFields}
@@ -103,7 +103,7 @@ pub release : (f : Facts) (s : List ℕ) (t : Site) (g : Gt) (cs : List ℕ) →
 unfolding reading
 release f s t g cs bytes h c =
     let a = accepted f s t g h in
-    let x = fixed-fits f s t (accepted-front f s t g h) in
+    let x = fixed-fits f s t (a .front) in
     let p = people-given (f .people) (t .formats) (t .people) (x .peopleRight) in
     let y = own-genotypes f s t g (p .0) (a .genotypes) in
     let n = length-chosenBlock s t cs c in

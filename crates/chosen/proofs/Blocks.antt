@@ -9,110 +9,24 @@ use native.Mathlib.Nat.{mul-assoc, mul-zero, zero-mul}
 use lib.Dec.{eqb}
 use lib.ListN.{length, take, drop, length-append, length-drop}
 use lib.Seq.{length-take-le, take-at, drop-at}
-use Rattle.words.specs.Lists.{among}
 use Rattle.words.specs.Pick.{pick}
-use Rattle.words.specs.Words.{outside}
 use Rattle.words.proofs.Places.{drop-on}
 use Rattle.types.specs.Rows.{widthOf}
-use Rattle.types.specs.declared.Use.the-variants.{Key, Format}
-use Rattle.values.specs.Answers.{noInteger, one, integerInside}
-use Rattle.values.specs.Values.{integer, inDictionary, keyed}
-use Rattle.values.specs.declared.Integer.{Integer}
-use Rattle.values.specs.declared.Integer.the-variants.{One, Refused as NoInteger}
-use Rattle.values.specs.declared.Value.{Value}
-use Rattle.values.specs.declared.Value.the-variants.{Present, Refused as NoValue}
+use Rattle.types.specs.declared.Use.the-variants.{Format}
+use Rattle.values.specs.declared.Value.the-variants.{Present}
 use Rattle.vectors.specs.Sound.{sound}
-use Rattle.genotypes.specs.Formats.{formats, afterKey, afterValue, noGenotypes, roleOf, gtNow, gtAt, noGt, Rest}
+use Rattle.genotypes.specs.Formats.{formats, roleOf, gtNow, gtAt, noGt}
 use Rattle.genotypes.specs.declared.Gt.{Gt}
 use Rattle.genotypes.specs.declared.Genotypes.the-variants.{Sound}
-use Rattle.fetch.specs.Fetch.{paired}
-use Rattle.fetch.specs.declared.Found.the-variants.{Field}
-use Rattle.fetch.proofs.Inside.{keyed-inside, drop-past}
-use Rattle.fetch.proofs.FormatFields.{format-there}
+use Rattle.fetch.proofs.Inside.{drop-past}
+use Rattle.fetch.proofs.FormatFields.{JudgedField, format-there, formats-field}
 use Rattle.choose.specs.Choice.{ascending, chosenParts}
 use Rattle.choose.specs.Chosen.{chosenFields}
-use Rattle.choose.proofs.There.{present-typed}
 use Rattle.chosen.proofs.Fronts.{keyed-front, take-past}
 use Rattle.chosen.proofs.Judging.{chosenParts-take}
 use Rattle.chosen.proofs.Fields.{length-chosen, sound-chosenParts}
 
--- a key in the dictionary is an integer
-keyed-integer : (strings at : ℕ) (l : List ℕ) (x next : ℕ) → keyed strings at l ≡ One x next → integer Key at l ≡ One x next
-unfolding keyed
-keyed-integer strings at l x next h = by-integer (integer Key at l) h
-  where
-    by-test : (y q : ℕ) (a : Bool) → pick a (noInteger 8 (at + 1)) (one y q) ≡ One x next → One y q ≡ One x next
-    by-test y q true e = cc
-    by-test y q false e = e
-
-    by-integer : (i : Integer) → inDictionary strings at i ≡ One x next → i ≡ One x next
-    by-integer (NoInteger r) e = cc
-    by-integer (One y q) e = by-test y q (outside strings y) e
-
--- a FORMAT field that is judged sound before the rest of its block: its key, its value, and what follows them
-pub record JudgedField (strings people gt alleles n : ℕ) (earlier : List ℕ) (known : Gt) (at : ℕ) (l : List ℕ) (g : Gt) : Type 0 where
-  pub key : ℕ
-  pub next : ℕ
-  pub code : ℕ
-  pub len : ℕ
-  pub first : ℕ
-  pub stop : ℕ
-  pub number : keyed strings at l ≡ One key next
-  pub once : among key earlier ≡ false
-  pub value : sound people alleles (roleOf key gt) next (drop (next - at) l) ≡ Present code len first stop
-  pub field : paired people Format at l ≡ Field key code len first stop
-  pub ends : stop ≡ first + people * len * widthOf code
-  pub keyLater : at ≤ next
-  pub later : next ≤ first
-  pub inside : stop ≤ at + length l
-  pub on : formats strings people gt alleles n (earlier ++ (key ∷ [])) (gtNow key gt (gtAt code len first) known) stop (drop (stop - at) l) ≡ Sound g
-
--- the first field of a block that is sound
-pub formats-field : (strings people gt alleles n : ℕ) (earlier : List ℕ) (known : Gt) (at : ℕ) (l : List ℕ) {g : Gt}
-    → formats strings people gt alleles (suc n) earlier known at l ≡ Sound g → JudgedField strings people gt alleles n earlier known at l g
-unfolding formats paired
-formats-field strings people gt alleles n earlier known at l {g} h = by-key (keyed strings at l) refl (keyed-inside strings at l) h
-  where
-    rest : Rest
-    rest = formats strings people gt alleles n
-
-    by-value : (key next : ℕ) (c : Bool) (v : Value) → keyed strings at l ≡ One key next → at ≤ next → next ≤ at + length l
-        → among key earlier ≡ c → sound people alleles (roleOf key gt) next (drop (next - at) l) ≡ v
-        → pick c (noGenotypes 11 (at + 1)) (afterValue key gt earlier known next (drop (next - at) l) rest v) ≡ Sound g
-        → JudgedField strings people gt alleles n earlier known at l g
-    by-value key next true v p a b q s e = let z : _≡_ {A = ℕ} 0 1 = cc in absurd (omega arith)
-    by-value key next false (NoValue r) p a b q s e = let z : _≡_ {A = ℕ} 0 1 = cc in absurd (omega arith)
-    by-value key next false (Present t k first stop) p a b q s e =
-        let there = format-there people alleles key gt next (drop (next - at) l) t k first stop s in
-        let i = present-typed people Format next (drop (next - at) l) t k first stop there in
-        let x = i .ends in
-        let y = i .later in
-        let z = rw (length-drop (next - at) l) at (i .inside) in
-        record {
-          key = key;
-          next = next;
-          code = t;
-          len = k;
-          first = first;
-          stop = stop;
-          number = p;
-          once = q;
-          value = s;
-          field = rw (keyed-integer strings at l key next p, there);
-          ends = x;
-          keyLater = a;
-          later = y;
-          inside = omega arith;
-          on = rw (drop-past l at next stop a (omega arith)) at e;
-        }
-
-    by-key : (i : Integer) → keyed strings at l ≡ i → integerInside at (at + length l) i → afterKey people gt alleles earlier known at l rest i ≡ Sound g
-        → JudgedField strings people gt alleles n earlier known at l g
-    by-key (NoInteger r) p k e = let z : _≡_ {A = ℕ} 0 1 = cc in absurd (omega arith)
-    by-key (One key next) p k e =
-        by-value key next (among key earlier) (sound people alleles (roleOf key gt) next (drop (next - at) l)) p (omega arith) (omega arith) refl refl e
-
--- the chosen people's elements of such a field are there
+-- the chosen people's elements of a field that is judged sound are there
 length-judged : (strings people gt alleles n : ℕ) (earlier : List ℕ) (known : Gt) (at : ℕ) (l cs : List ℕ) {g : Gt}
     → ascending people cs ≡ true → (j : JudgedField strings people gt alleles n earlier known at l g)
     → length (chosenParts (j .len * widthOf (j .code)) cs (drop (j .first - at) l)) ≡ length cs * j .len * widthOf (j .code)

@@ -17,9 +17,9 @@ use Rattle.vectors.specs.Vectors.{judged}
 use Rattle.vectors.specs.declared.Judged.{Judged}
 use Rattle.vectors.specs.declared.Judged.the-variants.{Sound, Refused as Unsound}
 use Rattle.fetch.proofs.Agree.{sound-there}
+use Rattle.fetch.proofs.Present.{present-typed}
 use Rattle.choose.specs.Choice.{ascending, chosenParts}
 use Rattle.choose.proofs.Choice.{length-chosenParts}
-use Rattle.choose.proofs.There.{present-typed}
 use Rattle.chosen.proofs.Fronts.{present-front}
 use Rattle.chosen.proofs.Judging.{chosenParts-take, judged-chosenParts}
 

@@ -1,5 +1,5 @@
 -- Of an accepted record: what its front says, and that its FORMAT fields are there and fill the genotype block to its last byte.
--- Rests on choose's facts about the front and on proofs/Blocks.
+-- Rests on choose's facts about the front and on fetch's FORMAT fields.
 use mathlib.Core.Path.{_≡_, refl}
 use mathlib.Core.List.{List, [], _∷_}
 use Prim.Native.Nat.{ℕ, zero, suc, _+_, _-_, _*_, _≤_}
@@ -17,9 +17,9 @@ use Rattle.record.specs.Reading.{reading, genotypesOf}
 use Rattle.record.specs.declared.Reading.the-variants.{Accepted}
 use Rattle.fetch.specs.Fetch.{paired}
 use Rattle.fetch.specs.declared.Found.the-variants.{Field}
+use Rattle.fetch.proofs.FormatFields.{formats-field}
 use Rattle.fetch.proofs.There.{accepted}
-use Rattle.choose.proofs.Fixed.{accepted-front, fixed-fits}
-use Rattle.chosen.proofs.Blocks.{formats-field}
+use Rattle.choose.proofs.Fixed.{fixed-fits}
 use Rattle.chosen.proofs.Sites.{people-given}
 
 -- a FORMAT field at the front of a list that is there, and what holds of the rest
@@ -78,7 +78,7 @@ pub record Opened (f : Facts) (s : List ℕ) (t : Site) : Type 0 where
 
 pub opened : (f : Facts) (s : List ℕ) (t : Site) (g : Gt) → reading f s ≡ Accepted t g → Opened f s t
 opened f s t g h =
-    let x = fixed-fits f s t (accepted-front f s t g h) in
+    let x = fixed-fits f s t (accepted f s t g h .front) in
     let a = x .border in
     let b = x .whole in
     let c = x .formats in

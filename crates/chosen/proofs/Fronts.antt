@@ -1,5 +1,5 @@
 -- What stands at the front of a list depends neither on what follows it nor on its label: integers, descriptors, values, fields.
--- Rests on values' definitions and on choose's laws of what is there.
+-- Rests on values' definitions and on fetch's laws of what is there.
 use mathlib.Core.Path.{_≡_, refl}
 use mathlib.Core.List.{List, [], _∷_, _++_, append-assoc}
 use mathlib.Core.Bool.{Bool, true, false}
@@ -24,7 +24,7 @@ use Rattle.values.specs.declared.Value.the-variants.{Present}
 use Rattle.fetch.specs.Fetch.{paired}
 use Rattle.fetch.specs.declared.Found.the-variants.{Field}
 use Rattle.fetch.proofs.Inside.{integer-inside}
-use Rattle.choose.proofs.There.{present-typed, paired-keyed}
+use Rattle.fetch.proofs.Present.{present-typed, paired-keyed}
 
 -- the number at the front of a list is that of its bytes, whatever follows
 number-front : (w : ℕ) (l m : List ℕ) → w ≤ length l → number w (take w l ++ m) ≡ number w l

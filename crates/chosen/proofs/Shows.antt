@@ -24,9 +24,9 @@ use Rattle.record.specs.declared.Reading.the-variants.{Accepted}
 use Rattle.fetch.specs.Fetch.{paired}
 use Rattle.fetch.specs.declared.Found.the-variants.{Field}
 use Rattle.fetch.proofs.Inside.{drop-past}
+use Rattle.fetch.proofs.Present.{paired-keyed, present-typed}
 use Rattle.choose.specs.Choice.{ascending, chosenParts}
 use Rattle.choose.specs.Chosen.{chosenFields, keptFormats, chosenBlock, chosenRecord}
-use Rattle.choose.proofs.There.{paired-keyed, present-typed}
 use Rattle.chosen.specs.Releases.{releasedSite, releasedField, releasedFields, released}
 use Rattle.chosen.proofs.Filled.{Filled, opened, filled}
 use Rattle.chosen.proofs.Kept.{room, kept}

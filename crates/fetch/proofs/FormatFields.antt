@@ -3,14 +3,14 @@
 use mathlib.Core.Path.{_≡_, refl, _∙_}
 use mathlib.Core.List.{List, [], _∷_, _++_}
 use mathlib.Core.Bool.{Bool, true, false}
-use Prim.Native.Nat.{ℕ, zero, suc, _+_, _-_, _/_, _%_}
+use Prim.Native.Nat.{ℕ, zero, suc, _+_, _-_, _*_, _/_, _%_, _≤_}
 use native.Mathlib.Omega.{arith}
 use lib.Dec.{eqb, ltb}
-use lib.ListN.{length, getD, drop}
+use lib.ListN.{length, getD, drop, length-drop}
 use Rattle.words.specs.Lists.{among}
 use Rattle.words.specs.Pick.{pick}
 use Rattle.words.specs.Words.{outside}
-use Rattle.types.specs.Rows.{rows, rowOf, unused}
+use Rattle.types.specs.Rows.{rows, rowOf, widthOf, unused}
 use Rattle.types.specs.declared.Row.{Row}
 use Rattle.types.specs.declared.Use.the-variants.{Key, Format as FormatUse, Gt as GtUse}
 use Rattle.values.specs.Answers.{integerInside, noInteger, one, noDescriptor, typed}
@@ -29,9 +29,11 @@ use Rattle.genotypes.specs.Formats.{formats, afterKey, afterValue, noGenotypes,
 use Rattle.genotypes.specs.declared.Gt.{Gt}
 use Rattle.genotypes.specs.declared.Genotypes.the-variants.{Sound}
 use Rattle.fetch.specs.Fetch.{valueField, afterKey as keyThen, paired, fieldStep, passing}
+use Rattle.fetch.specs.declared.Found.the-variants.{Field}
 use Rattle.fetch.specs.declared.Kind.the-variants.{Format}
-use Rattle.fetch.proofs.Inside.{keyed-inside, present-inside, drop-past}
+use Rattle.fetch.proofs.Inside.{keyed-inside, drop-past}
 use Rattle.fetch.proofs.Agree.{sound-there, sound-past, value-passed}
+use Rattle.fetch.proofs.Present.{present-typed}
 
 -- a row that allows GT allows FORMAT, at each row of the table
 abbrev wider : Row → Bool
@@ -119,35 +121,81 @@ pub format-passed : (strings people gt alleles at : ℕ) (l : List ℕ) (q : ℕ
 unfolding format passing paired keyed
 format-passed strings people gt alleles at l q h = format-value strings people gt alleles at l (integer Key at l) h
 
--- a FORMAT field that is sound: where it ends, and what follows it
-pub record Judged (people gt alleles at : ℕ) (l : List ℕ) (i : Integer) (rest : Rest) (g : Gt) : Type 0 where
-  pub stop : ℕ
-  pub earlier : List ℕ
-  pub known : Gt
-  pub judged : formatValue people gt alleles at l i ≡ At stop
-  pub on : rest earlier known stop (drop (stop - at) l) ≡ Sound g
-
-format-judged : (people gt alleles : ℕ) (earlier : List ℕ) (known : Gt) (at : ℕ) (l : List ℕ) (rest : Rest) (i : Integer) {g : Gt}
-    → integerInside at (at + length l) i → afterKey people gt alleles earlier known at l rest i ≡ Sound g → Judged people gt alleles at l i rest g
-format-judged people gt alleles earlier known at l rest (NoInteger r) k h = let z : _≡_ {A = ℕ} 0 1 = cc in absurd (omega arith)
-format-judged people gt alleles earlier known at l rest (One key next) k h =
-    by-value (among key earlier) (sound people alleles (roleOf key gt) next (drop (next - at) l)) refl h
+-- a key in the dictionary is an integer
+keyed-integer : (strings at : ℕ) (l : List ℕ) (x next : ℕ) → keyed strings at l ≡ One x next → integer Key at l ≡ One x next
+unfolding keyed
+keyed-integer strings at l x next h = by-integer (integer Key at l) h
   where
-    by-value : (c : Bool) (v : Value) {g : Gt} → sound people alleles (roleOf key gt) next (drop (next - at) l) ≡ v
+    by-test : (y q : ℕ) (a : Bool) → pick a (noInteger 8 (at + 1)) (one y q) ≡ One x next → One y q ≡ One x next
+    by-test y q true e = cc
+    by-test y q false e = e
+
+    by-integer : (i : Integer) → inDictionary strings at i ≡ One x next → i ≡ One x next
+    by-integer (NoInteger r) e = cc
+    by-integer (One y q) e = by-test y q (outside strings y) e
+
+-- a FORMAT field that is judged sound before the rest of its block: its key, its value, and what follows them
+pub record JudgedField (strings people gt alleles n : ℕ) (earlier : List ℕ) (known : Gt) (at : ℕ) (l : List ℕ) (g : Gt) : Type 0 where
+  pub key : ℕ
+  pub next : ℕ
+  pub code : ℕ
+  pub len : ℕ
+  pub first : ℕ
+  pub stop : ℕ
+  pub number : keyed strings at l ≡ One key next
+  pub once : among key earlier ≡ false
+  pub value : sound people alleles (roleOf key gt) next (drop (next - at) l) ≡ Present code len first stop
+  pub field : paired people FormatUse at l ≡ Field key code len first stop
+  pub ends : stop ≡ first + people * len * widthOf code
+  pub keyLater : at ≤ next
+  pub later : next ≤ first
+  pub inside : stop ≤ at + length l
+  pub on : formats strings people gt alleles n (earlier ++ (key ∷ [])) (gtNow key gt (gtAt code len first) known) stop (drop (stop - at) l) ≡ Sound g
+
+-- the first field of a block that is sound
+pub formats-field : (strings people gt alleles n : ℕ) (earlier : List ℕ) (known : Gt) (at : ℕ) (l : List ℕ) {g : Gt}
+    → formats strings people gt alleles (suc n) earlier known at l ≡ Sound g → JudgedField strings people gt alleles n earlier known at l g
+unfolding formats paired
+formats-field strings people gt alleles n earlier known at l {g} h = by-key (keyed strings at l) refl (keyed-inside strings at l) h
+  where
+    rest : Rest
+    rest = formats strings people gt alleles n
+
+    by-value : (key next : ℕ) (c : Bool) (v : Value) → keyed strings at l ≡ One key next → at ≤ next → next ≤ at + length l
+        → among key earlier ≡ c → sound people alleles (roleOf key gt) next (drop (next - at) l) ≡ v
         → pick c (noGenotypes 11 (at + 1)) (afterValue key gt earlier known next (drop (next - at) l) rest v) ≡ Sound g
-        → Judged people gt alleles at l (One key next) rest g
-    by-value true v s e = let z : _≡_ {A = ℕ} 0 1 = cc in absurd (omega arith)
-    by-value false (NoValue r) s e = let z : _≡_ {A = ℕ} 0 1 = cc in absurd (omega arith)
-    by-value false (Present t n first stop) s e =
-        let q = format-there people alleles key gt next (drop (next - at) l) t n first stop s in
-        let j = rw q at (present-inside people FormatUse next (drop (next - at) l)) in
+        → JudgedField strings people gt alleles n earlier known at l g
+    by-value key next true v p a b q s e = let z : _≡_ {A = ℕ} 0 1 = cc in absurd (omega arith)
+    by-value key next false (NoValue r) p a b q s e = let z : _≡_ {A = ℕ} 0 1 = cc in absurd (omega arith)
+    by-value key next false (Present t k first stop) p a b q s e =
+        let there = format-there people alleles key gt next (drop (next - at) l) t k first stop s in
+        let i = present-typed people FormatUse next (drop (next - at) l) t k first stop there in
+        let x = i .ends in
+        let y = i .later in
+        let z = rw (length-drop (next - at) l) at (i .inside) in
         record {
+          key = key;
+          next = next;
+          code = t;
+          len = k;
+          first = first;
           stop = stop;
-          earlier = earlier ++ (key ∷ []);
-          known = gtNow key gt (gtAt t n first) known;
-          judged = rw s;
-          on = rw (drop-past l at next stop (omega arith) (omega arith)) at e;
+          number = p;
+          once = q;
+          value = s;
+          field = rw (keyed-integer strings at l key next p, there);
+          ends = x;
+          keyLater = a;
+          later = y;
+          inside = omega arith;
+          on = rw (drop-past l at next stop a (omega arith)) at e;
         }
+
+    by-key : (i : Integer) → keyed strings at l ≡ i → integerInside at (at + length l) i → afterKey people gt alleles earlier known at l rest i ≡ Sound g
+        → JudgedField strings people gt alleles n earlier known at l g
+    by-key (NoInteger r) p k e = let z : _≡_ {A = ℕ} 0 1 = cc in absurd (omega arith)
+    by-key (One key next) p k e =
+        by-value key next (among key earlier) (sound people alleles (roleOf key gt) next (drop (next - at) l)) p (omega arith) (omega arith) refl refl e
 
 -- so many FORMAT fields that are sound
 pub record Ends (strings people gt alleles n at : ℕ) (l : List ℕ) : Type 0 where
@@ -156,9 +204,9 @@ pub record Ends (strings people gt alleles n at : ℕ) (l : List ℕ) : Type 0 w
 
 pub formats-judged : (strings people gt alleles n : ℕ) (earlier : List ℕ) (known : Gt) (at : ℕ) (l : List ℕ) {g : Gt}
     → formats strings people gt alleles n earlier known at l ≡ Sound g → Ends strings people gt alleles n at l
-unfolding formats times format
+unfolding times format
 formats-judged strings people gt alleles zero earlier known at l h = record { end = at; walked = refl }
 formats-judged strings people gt alleles (suc n) earlier known at l h =
-    let w = format-judged people gt alleles earlier known at l (formats strings people gt alleles n) (keyed strings at l) (keyed-inside strings at l) h in
-    let r = formats-judged strings people gt alleles n (w .earlier) (w .known) (w .stop) (drop (w .stop - at) l) (w .on) in
-    record { end = r .end; walked = rw (w .judged) (r .walked) }
+    let j = formats-field strings people gt alleles n earlier known at l h in
+    let r = formats-judged strings people gt alleles n _ _ (j .stop) (drop (j .stop - at) l) (j .on) in
+    record { end = r .end; walked = rw (j .number, j .value) (r .walked) }

@@ -3,4 +3,5 @@ pub mod Bytes
 pub mod Fields
 pub mod FormatFields
 pub mod Inside
+pub mod Present
 pub mod There

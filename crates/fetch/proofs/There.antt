@@ -189,26 +189,27 @@ once step at l h = rw h
 -- what an accepted record's reading went through
 pub record Read (f : Facts) (t : Site) (g : Gt) (s : List ℕ) : Type 0 where
   pub end : ℕ
+  pub front : fixed f s ≡ Front t
   pub block : siteOf f t s ≡ At end
   pub genotypes : genotypesOf f t s ≡ Sound g
 
 pub accepted : (f : Facts) (s : List ℕ) (t : Site) (g : Gt) → reading f s ≡ Accepted t g → Read f t g s
 unfolding reading
-accepted f s t g h = by-front (fixed f s) h
+accepted f s t g h = by-front (fixed f s) refl h
   where
     by-genotypes : (t′ : Site) (x : Genotypes) → afterGenotypes t′ x ≡ Accepted t g → (t′ ≡ t) × (x ≡ Sound g)
     by-genotypes t′ (NoGenotypes r) e = let z : _≡_ {A = ℕ} 0 1 = cc in absurd (omega arith)
     by-genotypes t′ (Sound g′) e = (cc, cc)
 
-    by-site : (t′ : Site) (p : Step) → siteOf f t′ s ≡ p → afterSite f t′ s p ≡ Accepted t g → Read f t g s
-    by-site t′ (NoStep r) b e = let z : _≡_ {A = ℕ} 0 1 = cc in absurd (omega arith)
-    by-site t′ (At q) b e =
+    by-site : (t′ : Site) (p : Step) → fixed f s ≡ Front t′ → siteOf f t′ s ≡ p → afterSite f t′ s p ≡ Accepted t g → Read f t g s
+    by-site t′ (NoStep r) x b e = let z : _≡_ {A = ℕ} 0 1 = cc in absurd (omega arith)
+    by-site t′ (At q) x b e =
         let k = by-genotypes t′ (genotypesOf f t′ s) e in
-        record { end = q; block = rw (k .0) at b; genotypes = rw (k .0) at (k .1) }
+        record { end = q; front = rw (k .0) at x; block = rw (k .0) at b; genotypes = rw (k .0) at (k .1) }
 
-    by-front : (x : Fixed) → afterFixed f s x ≡ Accepted t g → Read f t g s
-    by-front (NoSite r) e = let z : _≡_ {A = ℕ} 0 1 = cc in absurd (omega arith)
-    by-front (Front t′) e = by-site t′ (siteOf f t′ s) refl e
+    by-front : (x : Fixed) → fixed f s ≡ x → afterFixed f s x ≡ Accepted t g → Read f t g s
+    by-front (NoSite r) k e = let z : _≡_ {A = ℕ} 0 1 = cc in absurd (omega arith)
+    by-front (Front t′) k e = by-site t′ (siteOf f t′ s) k refl e
 
 -- where a kind's block begins and ends
 abbrev pub blockFrom : Kind → Site → ℕ

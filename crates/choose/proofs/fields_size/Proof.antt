@@ -7,7 +7,6 @@ use Rattle.types.specs.Rows.{widthOf}
 use Rattle.types.specs.declared.Use.the-variants.{Format}
 use Rattle.choose.specs.Sizes.{fieldsSize}
 use Rattle.choose.proofs.Fields.{kept-parts, size-turn, size-none}
-use Rattle.choose.proofs.There.{paired-stop}
 use borrow.Author.Needs.{needs}
 use Rattle.choose.proofs.fields_size.Statement.{statement}
 use Rattle.choose.proofs.fields_size.Tie as tie
@@ -15,6 +14,7 @@ use Rattle.choose.proofs.fields_size.Reads as reads
 use Rattle.choose.proofs.fields_size.Lts as lts
 use Rattle.choose.proofs.part_size.Reads as part-size-reads
 use Rattle.fetch.proofs.field_at.Reads as field-at-reads
+use Rattle.fetch.proofs.Present.{paired-stop}
 
 abbrev Inv-loop : tie.InvT-loop
 Inv-loop block from people kept count sum₀ left₀ at₀ sum left at =
