@@ -65,8 +65,6 @@ fields-size-requires c κs =
     let a = c .before .before .before .before .before .before .before .before .before .before .before .args in
     let v = c .before .before .before .before .before .r .given in
     let site = v .0 .0 in
-    let h = sym (c .before .before .before .before .before .before .before .read .ensures .0) ∙ v .1 in
-    let i = rw (v .1) at (c .before .before .before .before .before .before .before .read .ensures .1) in
     let asc = sym (c .before .before .before .is-ascending .ensures) ∙ c .before .before .if1 .taken in
     let few = length-ascending 0 (site .people) (a .choice .now) asc in
     omega (arith, few)
@@ -77,14 +75,8 @@ add-if2 c =
     let a = c .before .before .before .before .before .before .before .before .before .before .before .before .args in
     let v = c .before .before .before .before .before .before .r .given in
     let site = v .0 .0 in
-    let h = sym (c .before .before .before .before .before .before .before .before .read .ensures .0) ∙ v .1 in
     let i = rw (v .1) at (c .before .before .before .before .before .before .before .before .read .ensures .1) in
-    let asc = sym (c .before .before .before .before .is-ascending .ensures) ∙ c .before .before .before .if1 .taken in
-    let block = chosenBlock site (a .choice .now) (a .s .now) in
-    let known = size-block site (a .choice .now) (a .s .now) asc in
-    let size : c .fields-size .result ≡ length block = c .fields-size .ensures .0 ∙ rw (c .before .before .kept-formats .ensures) (sym known) in
     let small = rw (length-take-le (site .length) (a .s .now) (omega (arith, i))) at (c .fields-size .ensures .1) in
-    let whole = length-chosenRecord site (a .choice .now) (a .s .now) (omega (arith, i)) in
     omega (arith, i, small)
 
 -- src/lib.rt:246:13
@@ -100,7 +92,6 @@ returns-2 c =
     let block = chosenBlock site (a .choice .now) (a .s .now) in
     let known = size-block site (a .choice .now) (a .s .now) asc in
     let size : c .before .fields-size .result ≡ length block = c .before .fields-size .ensures .0 ∙ rw (c .before .before .before .kept-formats .ensures) (sym known) in
-    let small = rw (length-take-le (site .length) (a .s .now) (omega (arith, i))) at (c .before .fields-size .ensures .1) in
     let whole = length-chosenRecord site (a .choice .now) (a .s .now) (omega (arith, i)) in
     let q : length (a .buf .now) < length (chosenRecord site (a .choice .now) (a .s .now)) = omega (arith, size, whole) in
     (rw (h, asc, lt-ltb _ _ q), (tt, rw (h, asc, lt-ltb _ _ q)))
@@ -118,7 +109,6 @@ put-record-requires c κs =
     let known = size-block site (a .choice .now) (a .s .now) asc in
     let size : c .before .before .fields-size .result ≡ length block = c .before .before .fields-size .ensures .0 ∙ rw (c .before .before .before .before .kept-formats .ensures) (sym known) in
     let small = rw (length-take-le (site .length) (a .s .now) (omega (arith, i))) at (c .before .before .fields-size .ensures .1) in
-    let whole = length-chosenRecord site (a .choice .now) (a .s .now) (omega (arith, i)) in
     let bound = people-bound (a .facts) (a .s .now) site (v .0 .1 .0) h in
     (asc, bound, omega (arith, i), omega (arith, i), omega (arith, i), omega (arith, i, small), size, omega (arith, i))
 
@@ -128,14 +118,8 @@ add-t16 c =
     let a = c .before .before .before .before .before .before .before .before .before .before .before .before .before .before .before .before .before .args in
     let v = c .before .before .before .before .before .before .before .before .before .before .before .r .given in
     let site = v .0 .0 in
-    let h = sym (c .before .before .before .before .before .before .before .before .before .before .before .before .before .read .ensures .0) ∙ v .1 in
     let i = rw (v .1) at (c .before .before .before .before .before .before .before .before .before .before .before .before .before .read .ensures .1) in
-    let asc = sym (c .before .before .before .before .before .before .before .before .before .is-ascending .ensures) ∙ c .before .before .before .before .before .before .before .before .if1 .taken in
-    let block = chosenBlock site (a .choice .now) (a .s .now) in
-    let known = size-block site (a .choice .now) (a .s .now) asc in
-    let size : c .before .before .before .before .before .fields-size .result ≡ length block = c .before .before .before .before .before .fields-size .ensures .0 ∙ rw (c .before .before .before .before .before .before .before .kept-formats .ensures) (sym known) in
     let small = rw (length-take-le (site .length) (a .s .now) (omega (arith, i))) at (c .before .before .before .before .before .fields-size .ensures .1) in
-    let whole = length-chosenRecord site (a .choice .now) (a .s .now) (omega (arith, i)) in
     omega (arith, i, small)
 
 -- src/lib.rt:252:9
@@ -164,11 +148,8 @@ returns-3 c =
 returns-4 : tie.Need-returns-4
 unfolding choosing afterChoosing
 returns-4 c =
-    let a = c .before .before .before .before .before .before .before .before .before .args in
     let v = c .before .before .before .r .given in
-    let site = v .0 .0 in
     let h = sym (c .before .before .before .before .before .read .ensures .0) ∙ v .1 in
-    let i = rw (v .1) at (c .before .before .before .before .before .read .ensures .1) in
     let asc = sym (c .before .is-ascending .ensures) ∙ c .if1 .left in
     (rw (h, asc), (tt, rw (h, asc)))
 

@@ -70,28 +70,17 @@ put-field-requires c κs =
     let i = rw (f .1) at (c .before .before .before .before .before .field-at .ensures .1) in
     let h = sym (c .before .before .before .before .before .field-at .ensures .0) ∙ f .1 in
     let n = f .0 .1 .1 .0 in
-    let w = widthOf (f .0 .1 .0) in
     let kept = length (a .choice .now) in
     let stop = parts-stop (a .people) n (l .at) (drop (l .at) (a .block .now)) h in
     let size = size-turn (a .people) kept (l .left) (l .at) (a .block .now) (c .before .before .before .before .before .before .loop-test .taken) h (omega (arith, i)) in
-    let e : kept * c .before .part-size .result ≡ kept * (n * w) = ap (λ (x : ℕ). kept * x) (c .before .part-size .ensures .0) in
     (c .before .before .before .before .before .before .before .before .before .before .before .pre .0, omega (arith, i), rw (c .before .part-size .ensures .0) (omega (arith, i, stop)), rw (c .before .part-size .ensures .0) (omega (arith, l .inv .1, size)))
 
 -- src/lib.rt:184:14
 sub-o : tie.Need-sub-o Inv-loop μ-loop
 sub-o c =
-    let a = c .before .before .before .before .before .before .before .before .before .before .before .before .before .before .args in
-    let l = c .before .before .before .before .before .before .before .before .before .before .loop in
     let f = c .before .before .before .before .before .before .f .given in
     let i = rw (f .1) at (c .before .before .before .before .before .before .before .before .field-at .ensures .1) in
-    let h = sym (c .before .before .before .before .before .before .before .before .field-at .ensures .0) ∙ f .1 in
-    let n = f .0 .1 .1 .0 in
-    let w = widthOf (f .0 .1 .0) in
-    let kept = length (a .choice .now) in
-    let stop = parts-stop (a .people) n (l .at) (drop (l .at) (a .block .now)) h in
-    let size = size-turn (a .people) kept (l .left) (l .at) (a .block .now) (c .before .before .before .before .before .before .before .before .before .loop-test .taken) h (omega (arith, i)) in
-    let e : kept * c .before .before .before .before .part-size .result ≡ kept * (n * w) = ap (λ (x : ℕ). kept * x) (c .before .before .before .before .part-size .ensures .0) in
-    omega (arith, i, stop, size, e, l .inv .1)
+    omega (arith, i)
 
 -- src/lib.rt:184:27
 mul-o : tie.Need-mul-o Inv-loop μ-loop
@@ -104,10 +93,9 @@ mul-o c =
     let n = f .0 .1 .1 .0 in
     let w = widthOf (f .0 .1 .0) in
     let kept = length (a .choice .now) in
-    let stop = parts-stop (a .people) n (l .at) (drop (l .at) (a .block .now)) h in
     let size = size-turn (a .people) kept (l .left) (l .at) (a .block .now) (c .before .before .before .before .before .before .before .before .before .loop-test .taken) h (omega (arith, i)) in
     let e : kept * c .before .before .before .before .part-size .result ≡ kept * (n * w) = ap (λ (x : ℕ). kept * x) (c .before .before .before .before .part-size .ensures .0) in
-    omega (arith, i, stop, size, e, l .inv .1)
+    omega (arith, size, e, l .inv .1)
 
 -- src/lib.rt:184:14
 add-o : tie.Need-add-o Inv-loop μ-loop
@@ -120,10 +108,9 @@ add-o c =
     let n = f .0 .1 .1 .0 in
     let w = widthOf (f .0 .1 .0) in
     let kept = length (a .choice .now) in
-    let stop = parts-stop (a .people) n (l .at) (drop (l .at) (a .block .now)) h in
     let size = size-turn (a .people) kept (l .left) (l .at) (a .block .now) (c .before .before .before .before .before .before .before .before .before .loop-test .taken) h (omega (arith, i)) in
     let e : kept * c .before .before .before .before .part-size .result ≡ kept * (n * w) = ap (λ (x : ℕ). kept * x) (c .before .before .before .before .part-size .ensures .0) in
-    omega (arith, i, stop, size, e, l .inv .1)
+    omega (arith, size, e, l .inv .1)
 
 -- src/lib.rt:184:9
 add-o-2 : tie.Need-add-o-2 Inv-loop μ-loop
@@ -136,10 +123,9 @@ add-o-2 c =
     let n = f .0 .1 .1 .0 in
     let w = widthOf (f .0 .1 .0) in
     let kept = length (a .choice .now) in
-    let stop = parts-stop (a .people) n (l .at) (drop (l .at) (a .block .now)) h in
     let size = size-turn (a .people) kept (l .left) (l .at) (a .block .now) (c .before .before .before .before .before .before .before .before .before .loop-test .taken) h (omega (arith, i)) in
     let e : kept * c .before .before .before .before .part-size .result ≡ kept * (n * w) = ap (λ (x : ℕ). kept * x) (c .before .before .before .before .part-size .ensures .0) in
-    omega (arith, i, stop, size, e, l .inv .1)
+    omega (arith, size, e, l .inv .1)
 
 -- src/lib.rt:186:9
 sub-left : tie.Need-sub-left Inv-loop μ-loop
@@ -160,7 +146,6 @@ loop-again c =
     let n = f .0 .1 .1 .0 in
     let w = widthOf (f .0 .1 .0) in
     let kept = length (a .choice .now) in
-    let stop = parts-stop (a .people) n (l .at) (drop (l .at) (a .block .now)) h in
     let size = size-turn (a .people) kept (l .left) (l .at) (a .block .now) (c .before .before .before .before .before .before .before .before .before .loop-test .taken) h (omega (arith, i)) in
     let e : kept * c .before .before .before .before .part-size .result ≡ kept * (n * w) = ap (λ (x : ℕ). kept * x) (c .before .before .before .before .part-size .ensures .0) in
     let t = field-stored (l .buf) (l .o) (a .people) (a .choice .now) (l .left) (l .at) (a .block .now) (c .before .before .before .before .before .before .before .before .before .before .before .before .before .before .pre .0) (c .before .before .before .before .before .before .before .before .before .loop-test .taken) h (omega (arith, i)) (omega (arith, i)) (omega (arith, i)) in

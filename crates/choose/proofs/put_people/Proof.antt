@@ -68,10 +68,8 @@ mul-n c =
     let a = c .before .before .before .before .before .before .before .before .args in
     let l = c .before .before .before .before .loop in
     let s = c .before .before .stretch in
-    let first = c .wide .result in
     let q = stretch-inside (a .people) (a .size) (length (a .parts .now)) (a .choice .now) (l .i) (s .result) (c .before .before .before .before .before .before .before .before .pre .0) (c .before .before .before .before .before .before .before .before .pre .1) (s .ensures .0 .0) (s .ensures .0 .1) (s .ensures .1) in
-    let e : first * a .size ≡ getD (a .choice .now) (l .i) 0 * a .size = ap (λ (x : ℕ). x * a .size) (c .wide .ensures .0) in
-    omega (arith, q, e)
+    omega (arith, q)
 
 -- src/lib.rt:87:43
 add-put : tie.Need-add-put Inv-loop μ-loop
@@ -113,11 +111,8 @@ add-o c =
     let a = c .before .before .before .before .before .before .before .before .before .before .before .before .before .args in
     let l = c .before .before .before .before .before .before .before .before .before .loop in
     let s = c .before .before .before .before .before .before .before .stretch in
-    let first = c .before .before .before .before .before .wide .result in
-    let q = stretch-inside (a .people) (a .size) (length (a .parts .now)) (a .choice .now) (l .i) (s .result) (c .before .before .before .before .before .before .before .before .before .before .before .before .before .pre .0) (c .before .before .before .before .before .before .before .before .before .before .before .before .before .pre .1) (s .ensures .0 .0) (s .ensures .0 .1) (s .ensures .1) in
-    let e : first * a .size ≡ getD (a .choice .now) (l .i) 0 * a .size = ap (λ (x : ℕ). x * a .size) (c .before .before .before .before .before .wide .ensures .0) in
     let r = stretch-room (a .size) (l .o) (l .i) (s .result) (length (a .choice .now)) (length (l .buf)) (s .ensures .0 .1) (l .inv .1) in
-    omega (arith, q, e, r)
+    omega (arith, r)
 
 -- src/lib.rt:89:9
 add-i : tie.Need-add-i Inv-loop μ-loop
@@ -141,9 +136,6 @@ loop-again c =
     let a = c .before .before .before .before .before .before .before .before .before .before .before .before .before .before .args in
     let l = c .before .before .before .before .before .before .before .before .before .before .loop in
     let s = c .before .before .before .before .before .before .before .before .stretch in
-    let first = c .before .before .before .before .before .before .wide .result in
-    let q = stretch-inside (a .people) (a .size) (length (a .parts .now)) (a .choice .now) (l .i) (s .result) (c .before .before .before .before .before .before .before .before .before .before .before .before .before .before .pre .0) (c .before .before .before .before .before .before .before .before .before .before .before .before .before .before .pre .1) (s .ensures .0 .0) (s .ensures .0 .1) (s .ensures .1) in
-    let e : first * a .size ≡ getD (a .choice .now) (l .i) 0 * a .size = ap (λ (x : ℕ). x * a .size) (c .before .before .before .before .before .before .wide .ensures .0) in
     let r = stretch-room (a .size) (l .o) (l .i) (s .result) (length (a .choice .now)) (length (l .buf)) (s .ensures .0 .1) (l .inv .1) in
     let t = stretch-stored (l .buf) (l .o) (a .people) (a .size) (a .choice .now) (l .i) (s .result) (a .parts .now) (c .before .before .before .before .before .before .before .before .before .before .before .before .before .before .pre .0) (c .before .before .before .before .before .before .before .before .before .before .before .before .before .before .pre .1) (s .ensures .0 .0) (s .ensures .0 .1) (s .ensures .1) (l .inv .1) in
     let k = c .before .before .before .put .kept .0 in
