@@ -16,3 +16,7 @@ capitals (b ∷ bs) = capital (b / 16) ∷ capital (b % 16) ∷ capitals bs
 -- the four bytes of a number, the high one first
 unfoldable pub highFirst : ℕ → List ℕ
 highFirst n = n / 16777216 ∷ n / 65536 % 256 ∷ n / 256 % 256 ∷ n % 256 ∷ []
+
+-- the eight digits of a number
+abbrev pub eight : ℕ → List ℕ
+eight n = capitals (highFirst n)

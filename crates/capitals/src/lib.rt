@@ -4,7 +4,7 @@ ghost use mathlib.Core.Path.{_≡_};
 ghost use Prim.Native.Nat.{_<_};
 ghost use lib.ListN.{length};
 ghost use Rattle.stores.specs.Stores.{fits, filled};
-ghost use Rattle.capitals.specs.Capitals.{capital, capitals, highFirst};
+ghost use Rattle.capitals.specs.Capitals.{capital, capitals, eight};
 
 // The character of a digit.
 fn capital_of(d: u8) -> u8
@@ -43,7 +43,7 @@ pub fn put_capitals(buf: &mut [u8], at: usize, part: &[u8]) -> bool
 // Stores the eight digits of a number at a place, and says whether there was room.
 pub fn put_eight(buf: &mut [u8], at: usize, n: u32) -> bool
     ensures told { λ r. ⌜ r ≡ fits (length (now (buf .entry))) at 8 ⌝ }
-    ensures written { λ _. ⌜ now (buf .exit) ≡ filled (now (buf .entry)) at (capitals (highFirst n)) ⌝ }
+    ensures written { λ _. ⌜ now (buf .exit) ≡ filled (now (buf .entry)) at (eight n) ⌝ }
 {
     let bytes = [
         (n / 16777216) as u8,

@@ -6,7 +6,7 @@ ghost use Prim.Native.Nat.{_+_, _*_, _≤_};
 ghost use lib.ListN.{length};
 ghost use lib.Seq.{sets};
 ghost use Rattle.frames.specs.Text.{spaced, line, badLine, noLine};
-ghost use Rattle.frames.specs.Frames.{acceptedLine, recordLine, answer, answered, textInside, decoded};
+ghost use Rattle.frames.specs.Frames.{acceptedLine, recordLine, said, saidIn, answer, answered, textInside, decoded};
 use decimal::Put;
 use fixed::Facts;
 use fixed::Site;
@@ -79,6 +79,30 @@ fn put_refusal(out: &mut [u8], r: Refusal) -> usize
     let numbers = [r.number as u64, r.place as u64];
     let none = [0u64; 1];
     put_line(out, b'n', b'o', &numbers, &none[..0])
+}
+
+// Says `bad` at the buffer's start.
+pub fn say_bad(out: &mut [u8]) -> Answer
+    ensures told { λ r. ⌜ r ≡ said (length (now (out .entry))) badLine ⌝ }
+    ensures inside { λ r. ⌜ textInside (length (now (out .entry))) r ⌝ }
+    ensures written { λ _. ⌜ now (out .exit) ≡ saidIn (now (out .entry)) badLine ⌝ }
+{
+    if out.len() < 2048 {
+        return Answer::NoRoom;
+    }
+    Answer::Text(put_bad(out))
+}
+
+// Says `no` with a refusal's number and place at the buffer's start.
+pub fn say_refusal(out: &mut [u8], r: Refusal) -> Answer
+    ensures told { λ a. ⌜ a ≡ said (length (now (out .entry))) (noLine (r .number ∷ r .place ∷ [])) ⌝ }
+    ensures inside { λ a. ⌜ textInside (length (now (out .entry))) a ⌝ }
+    ensures written { λ _. ⌜ now (out .exit) ≡ saidIn (now (out .entry)) (noLine (r .number ∷ r .place ∷ [])) ⌝ }
+{
+    if out.len() < 2048 {
+        return Answer::NoRoom;
+    }
+    Answer::Text(put_refusal(out, r))
 }
 
 // Puts `ok` with what is said of an accepted record.

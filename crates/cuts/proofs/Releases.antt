@@ -1,0 +1,54 @@
+-- The release's first line stored piece by piece. Rests on specs/Release and on stores.
+use mathlib.Core.Path.{_≡_, refl, _∙_}
+use mathlib.Core.List.{List, [], _∷_, _++_}
+use Prim.Native.Nat.{ℕ, _+_, _≤_}
+use native.Mathlib.Omega.{arith}
+use lib.ListN.{length, set, length-append, length-set}
+use lib.Seq.{sets, length-sets}
+use Rattle.words.proofs.Stores.{sets-append}
+use Rattle.stores.specs.Stores.{filled}
+use Rattle.stores.proofs.Room.{filled-room}
+use Rattle.fixed.specs.declared.Facts.{Facts}
+use Rattle.capitals.specs.Capitals.{highFirst, eight}
+use Rattle.capitals.proofs.Turns.{length-capitals}
+use Rattle.cuts.specs.Release.{releaseLine}
+
+pub length-eight : (n : ℕ) → length (eight n) ≡ 8
+unfolding highFirst
+length-eight n = length-capitals (highFirst n)
+
+pub length-release : (f : Facts) (n : ℕ) → length (releaseLine f n) ≡ 33
+unfolding releaseLine
+length-release f n =
+    rw (length-append, length-append, length-append, length-append, length-eight, length-eight, length-eight, length-eight)
+
+-- a number's digits have room
+pub eight-filled : (out : List ℕ) (at n : ℕ) → at + 8 ≤ length out → filled out at (eight n) ≡ sets out at (eight n)
+eight-filled out at n h = filled-room out at (eight n) (rw length-eight h)
+
+pub release-stored : (out : List ℕ) (f : Facts) (n : ℕ) → 33 ≤ length out
+    → set (filled (filled (filled (filled out 0 (eight (f .strings))) 8 (eight (f .contigs))) 16 (eight n)) 24 (eight (f .gt))) 32 0x0A
+    ≡ sets out 0 (releaseLine f n)
+unfolding releaseLine
+release-stored out f n h =
+    let a = eight (f .strings) in
+    let b = eight (f .contigs) in
+    let c = eight n in
+    let d = eight (f .gt) in
+    let one = sets out 0 a in
+    let two = sets one 8 b in
+    let three = sets two 16 c in
+    rw (
+      eight-filled out 0 (f .strings) (omega arith),
+      eight-filled one 8 (f .contigs) (rw length-sets (omega arith)),
+      eight-filled two 16 n (rw (length-sets, length-sets) (omega arith)),
+      eight-filled three 24 (f .gt) (rw (length-sets, length-sets, length-sets) (omega arith)),
+      sets-append a (b ++ (c ++ (d ++ (0x0A ∷ [])))) out 0,
+      length-eight,
+      sets-append b (c ++ (d ++ (0x0A ∷ []))) one 8,
+      length-eight,
+      sets-append c (d ++ (0x0A ∷ [])) two 16,
+      length-eight,
+      sets-append d (0x0A ∷ []) three 24,
+      length-eight,
+    )
