@@ -1,6 +1,6 @@
 -- An accepted record's length is that of its blocks, and lies in the list; so bytes follow it where they follow its blocks.
 -- Rests on fixed's definitions, on reading, and on specs/Followed.
-use mathlib.Core.Path.{_≡_, refl, ap, _∙_}
+use mathlib.Core.Path.{_≡_, refl, ap}
 use mathlib.Core.List.{List}
 use mathlib.Core.Bool.{Bool, true, false}
 use Prim.Native.Nat.{ℕ, _+_, _/_, _%_, _≤_}

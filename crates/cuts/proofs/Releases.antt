@@ -1,15 +1,19 @@
--- The release's first line stored piece by piece. Rests on specs/Release and on stores.
-use mathlib.Core.Path.{_≡_, refl, _∙_}
+-- The release's first line stored piece by piece, and read back: it says the facts with the people chosen.
+-- Rests on specs/Release, on stores, and on hexadecimal.
+use mathlib.Core.Path.{_≡_}
 use mathlib.Core.List.{List, [], _∷_, _++_}
-use Prim.Native.Nat.{ℕ, _+_, _≤_}
+use Prim.Native.Nat.{ℕ, _+_, _^_, _<_, _≤_}
 use native.Mathlib.Omega.{arith}
-use lib.ListN.{length, set, length-append, length-set}
+use lib.ListN.{length, set, take, length-append}
 use lib.Seq.{sets, length-sets}
 use Rattle.words.proofs.Stores.{sets-append}
 use Rattle.stores.specs.Stores.{filled}
 use Rattle.stores.proofs.Room.{filled-room}
 use Rattle.fixed.specs.declared.Facts.{Facts}
-use Rattle.capitals.specs.Capitals.{highFirst, eight}
+use Rattle.hexadecimal.specs.Hexadecimal.{factsOf}
+use Rattle.hexadecimal.specs.declared.FactsLine.the-variants.{Facts as Said}
+use Rattle.capitals.specs.Capitals.{capitals, highFirst, eight}
+use Rattle.capitals.proofs.Back.{digits-capitals, bytes-high, big-eight}
 use Rattle.capitals.proofs.Turns.{length-capitals}
 use Rattle.cuts.specs.Release.{releaseLine}
 
@@ -52,3 +56,18 @@ release-stored out f n h =
       sets-append d (0x0A ∷ []) three 24,
       length-eight,
     )
+
+-- the release's first line without its line feed gives the header's facts, with the people chosen
+pub release-read : (f : Facts) (n : ℕ) → f .strings < 2 ^ 32 → f .contigs < 2 ^ 32 → n < 2 ^ 32 → f .gt < 2 ^ 32
+    → factsOf (take 32 (releaseLine f n)) ≡ Said (f .strings) (f .contigs) n (f .gt)
+unfolding releaseLine factsOf capitals highFirst
+release-read f n s c p g =
+    let last = highFirst (f .gt) ++ [] in
+    let two = highFirst n ++ last in
+    let three = highFirst (f .contigs) ++ two in
+    let all = highFirst (f .strings) ++ three in
+    let b₁ = bytes-high (f .gt) [] g (λ i l. absurd (omega arith)) in
+    let b₂ = bytes-high n last p b₁ in
+    let b₃ = bytes-high (f .contigs) two c b₂ in
+    let b₄ = bytes-high (f .strings) three s b₃ in
+    rw (digits-capitals all b₄, big-eight (f .strings) s, big-eight (f .contigs) c, big-eight n p, big-eight (f .gt) g)

@@ -15,6 +15,9 @@ use hexadecimal::Frame;
 use record::Reading;
 use values::Refusal;
 
+// The room that any answer has.
+const TEXT_ROOM: usize = 2048;
+
 // The answer to a line: so many bytes of text; or a buffer is too short for any answer.
 pub enum Answer {
     Text(usize),
@@ -87,7 +90,7 @@ pub fn say_bad(out: &mut [u8]) -> Answer
     ensures inside { λ r. ⌜ textInside (length (now (out .entry))) r ⌝ }
     ensures written { λ _. ⌜ now (out .exit) ≡ saidIn (now (out .entry)) badLine ⌝ }
 {
-    if out.len() < 2048 {
+    if out.len() < TEXT_ROOM {
         return Answer::NoRoom;
     }
     Answer::Text(put_bad(out))
@@ -99,7 +102,7 @@ pub fn say_refusal(out: &mut [u8], r: Refusal) -> Answer
     ensures inside { λ a. ⌜ textInside (length (now (out .entry))) a ⌝ }
     ensures written { λ _. ⌜ now (out .exit) ≡ saidIn (now (out .entry)) (noLine (r .number ∷ r .place ∷ [])) ⌝ }
 {
-    if out.len() < 2048 {
+    if out.len() < TEXT_ROOM {
         return Answer::NoRoom;
     }
     Answer::Text(put_refusal(out, r))
@@ -162,7 +165,7 @@ pub fn answer_line(line: &[u8], facts: Facts, frame: &mut [u8], out: &mut [u8]) 
     ensures written { λ _. ⌜ now (out .exit) ≡ answered (length (now (frame .entry))) (now (out .entry)) facts (now (line .entry)) ⌝ }
     ensures decoded { λ _. ⌜ now (frame .exit) ≡ decoded (now (frame .entry)) (length (now (out .entry))) (now (line .entry)) ⌝ }
 {
-    if out.len() < 2048 {
+    if out.len() < TEXT_ROOM {
         return Answer::NoRoom;
     }
     let f = hexadecimal::decode(line, frame);

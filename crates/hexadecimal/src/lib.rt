@@ -9,6 +9,9 @@ ghost use Rattle.hexadecimal.specs.Hexadecimal.{digit, valuesFrom, digit
 
 mod characters; // the value of each character as a digit
 
+// The most digits that a line may have, the first line apart.
+const MOST_DIGITS: usize = 60000;
+
 // The first line: its four numbers, or none where it is not 32 digits.
 pub enum FactsLine {
     Facts {
@@ -125,7 +128,7 @@ pub fn read_choice(line: &[u8], choice: &mut [u32]) -> ChoiceLine
     ensures inside { λ r. ⌜ peopleInside (length (now (choice .entry))) r ⌝ }
     ensures written { λ _. ⌜ now (choice .exit) ≡ stored (now (choice .entry)) (choiceOf (now (line .entry))) ⌝ }
 {
-    if 60000 < line.len() {
+    if MOST_DIGITS < line.len() {
         return ChoiceLine::Bad;
     }
     if line.len() % 8 == 0 {
@@ -163,7 +166,7 @@ pub fn decode(line: &[u8], buf: &mut [u8]) -> Frame
     ensures inside { λ r. ⌜ bytesInside (length (now (buf .entry))) r ⌝ }
     ensures written { λ _. ⌜ now (buf .exit) ≡ stored (now (buf .entry)) (frameOf (now (line .entry))) ⌝ }
 {
-    if 60000 < line.len() {
+    if MOST_DIGITS < line.len() {
         return Frame::Bad;
     }
     if line.len() % 2 == 1 {

@@ -1,7 +1,7 @@
 -- `cuts::release_line` meets its contract.
-use mathlib.Core.Path.{_≡_, ap, sym}
+use mathlib.Core.Path.{ap, sym}
 use native.Mathlib.Omega.{arith}
-use lib.ListN.{length, length-set}
+use lib.ListN.{length-set}
 use borrow.Author.Tests.{lt-ltb, le-ltb}
 use Rattle.frames.specs.declared.Answer.the-variants.{Text}
 use Rattle.cuts.specs.Release.{released, releasedIn}

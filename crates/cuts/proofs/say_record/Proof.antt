@@ -1,5 +1,5 @@
 -- `cuts::say_record` meets its contract. By whether bytes follow the record: what reading said of it, or what choosing said.
-use mathlib.Core.Path.{_≡_, _∙_, ap, sym}
+use mathlib.Core.Path.{_∙_, ap, sym}
 use mathlib.Core.List.{List}
 use Prim.Native.Nat.{ℕ, _≤_}
 use native.Mathlib.Omega.{arith}

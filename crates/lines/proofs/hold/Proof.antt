@@ -1,8 +1,7 @@
 -- `lines::hold` meets its contract. By how much of the part has room: nothing, some of it, or all.
-use mathlib.Core.Path.{_∙_, sym, ap}
+use mathlib.Core.Path.{_∙_, sym}
 use native.Mathlib.Omega.{arith}
-use lib.ListN.{length}
-use lib.Seq.{sets, length-take-le}
+use lib.Seq.{length-take-le}
 use Rattle.stores.proofs.Room.{filled-room}
 use Rattle.lines.proofs.Lines.{fitting-none, fitting-all, length-fitting, fitting-stored}
 use borrow.Author.Needs.{needs}
