@@ -1,5 +1,5 @@
 // The line program: reads hexadecimal frames from standard input, a line each, and writes an answer line for each record.
-// Everything that is said of a line is frames' and hexadecimal's; this splits the input into lines and moves bytes.
+// Everything that is said of a line is frames' and hexadecimal's, and where a line ends is lines'; this moves bytes.
 ghost use Prim.Native.Nat.{_<_, _≤_};
 ghost use lib.ListN.{length};
 ghost use mathlib.Core.Path.{_≡_};
@@ -19,39 +19,6 @@ struct State {
     stage: Stage,
     held: usize,
     waiting: usize,
-}
-
-// The place of the next line feed from a place on, or the end of the piece.
-fn line_end(piece: &[u8], from: usize) -> usize
-    requires { ⌜ from ≤ length (now piece) ⌝ }
-    ensures { λ r. ⌜ (from ≤ r) × (r ≤ length (now (piece .entry))) ⌝ }
-{
-    let mut at = from;
-    while at < piece.len() {
-        if piece[at] == b'\n' {
-            return at;
-        }
-        at += 1;
-    }
-    at
-}
-
-// Holds more bytes of an unfinished line, as many as there is room for: one more than a line may have is enough to know it is bad.
-fn hold(line: &mut [u8], held: usize, part: &[u8]) -> usize
-    requires { ⌜ held ≤ length (now line) ⌝ }
-    ensures { λ r. ⌜ r ≤ length (now (line .entry)) ⌝ }
-{
-    let mut at = held;
-    let mut i = 0;
-    while i < part.len() {
-        if line.len() <= at {
-            return at;
-        }
-        line[at] = part[i];
-        at += 1;
-        i += 1;
-    }
-    at
 }
 
 // Makes room for one more answer: what waits is written where there is less room than any answer may take.
@@ -144,10 +111,10 @@ fn take_part(
         if held == 0 {
             return take_line(stage, part, frame, out, waiting);
         }
-        let n = hold(line, held, part);
+        let n = lines::hold(line, held, part);
         return take_line(stage, &line[..n], frame, out, waiting);
     }
-    let n = hold(line, held, part);
+    let n = lines::hold(line, held, part);
     State {
         stage,
         held: n,
@@ -169,7 +136,7 @@ fn take_piece(
     let mut s = state;
     let mut at = 0;
     while at < piece.len() {
-        let end = line_end(piece, at);
+        let end = lines::line_end(piece, at);
         s = take_part(s, &piece[at..end], end < piece.len(), line, frame, out);
         if piece.len() <= end {
             return s;
@@ -223,6 +190,7 @@ fn finish(state: State, line: &mut [u8], frame: &mut [u8], out: &mut [u8])
 
 fn main() {
     let mut piece = [0u8; 65536];
+    // One character more than a line may have: a longer one is then known to be bad.
     let mut line = [0u8; 60001];
     let mut frame = [0u8; 30000];
     let mut out = [0u8; 65536];

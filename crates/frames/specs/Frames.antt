@@ -52,6 +52,13 @@ answerLine f line = frameLine f (frameOf line)
 abbrev pub textRoom : ℕ
 textRoom = 2048
 
+-- a text that is said, and its buffer: the text at the buffer's start and its length; nothing where any answer would have no room
+unfoldable pub said : ℕ → List ℕ → Answer
+said room text = pick (ltb room textRoom) NoRoom (Text (length text))
+
+unfoldable pub saidIn : List ℕ → List ℕ → List ℕ
+saidIn out text = pick (ltb (length out) textRoom) out (sets out 0 text)
+
 -- a line's answer and its buffer: the text at the buffer's start and its length; nothing where the record's bytes, or any answer,
 -- would have no room in the lent buffers
 abbrev pub framed : {A : Type 0} → ℕ → A → A → Option (List ℕ) → A

@@ -6,7 +6,7 @@ ghost use Prim.Native.Nat.{_+_, _*_, _≤_};
 ghost use lib.ListN.{length};
 ghost use lib.Seq.{sets};
 ghost use Rattle.frames.specs.Text.{spaced, line, badLine, noLine};
-ghost use Rattle.frames.specs.Frames.{acceptedLine, recordLine, answer, answered, textInside, decoded};
+ghost use Rattle.frames.specs.Frames.{acceptedLine, recordLine, said, saidIn, answer, answered, textInside, decoded};
 use decimal::Put;
 use fixed::Facts;
 use fixed::Site;
@@ -14,6 +14,9 @@ use genotypes::Gt;
 use hexadecimal::Frame;
 use record::Reading;
 use values::Refusal;
+
+// The room that any answer has.
+const TEXT_ROOM: usize = 2048;
 
 // The answer to a line: so many bytes of text; or a buffer is too short for any answer.
 pub enum Answer {
@@ -81,6 +84,30 @@ fn put_refusal(out: &mut [u8], r: Refusal) -> usize
     put_line(out, b'n', b'o', &numbers, &none[..0])
 }
 
+// Says `bad` at the buffer's start.
+pub fn say_bad(out: &mut [u8]) -> Answer
+    ensures told { λ r. ⌜ r ≡ said (length (now (out .entry))) badLine ⌝ }
+    ensures inside { λ r. ⌜ textInside (length (now (out .entry))) r ⌝ }
+    ensures written { λ _. ⌜ now (out .exit) ≡ saidIn (now (out .entry)) badLine ⌝ }
+{
+    if out.len() < TEXT_ROOM {
+        return Answer::NoRoom;
+    }
+    Answer::Text(put_bad(out))
+}
+
+// Says `no` with a refusal's number and place at the buffer's start.
+pub fn say_refusal(out: &mut [u8], r: Refusal) -> Answer
+    ensures told { λ a. ⌜ a ≡ said (length (now (out .entry))) (noLine (r .number ∷ r .place ∷ [])) ⌝ }
+    ensures inside { λ a. ⌜ textInside (length (now (out .entry))) a ⌝ }
+    ensures written { λ _. ⌜ now (out .exit) ≡ saidIn (now (out .entry)) (noLine (r .number ∷ r .place ∷ [])) ⌝ }
+{
+    if out.len() < TEXT_ROOM {
+        return Answer::NoRoom;
+    }
+    Answer::Text(put_refusal(out, r))
+}
+
 // Puts `ok` with what is said of an accepted record.
 fn put_accepted(out: &mut [u8], bytes: &[u8], site: Site, gt: Gt) -> usize
     requires { ⌜ 2048 ≤ length (now out) ⌝ }
@@ -138,7 +165,7 @@ pub fn answer_line(line: &[u8], facts: Facts, frame: &mut [u8], out: &mut [u8]) 
     ensures written { λ _. ⌜ now (out .exit) ≡ answered (length (now (frame .entry))) (now (out .entry)) facts (now (line .entry)) ⌝ }
     ensures decoded { λ _. ⌜ now (frame .exit) ≡ decoded (now (frame .entry)) (length (now (out .entry))) (now (line .entry)) ⌝ }
 {
-    if out.len() < 2048 {
+    if out.len() < TEXT_ROOM {
         return Answer::NoRoom;
     }
     let f = hexadecimal::decode(line, frame);

@@ -2,16 +2,16 @@
 use mathlib.Core.Path.{_≡_, refl}
 use mathlib.Core.List.{List, [], _∷_}
 use mathlib.Core.Bool.{Bool, true, false}
-use Prim.Native.Nat.{ℕ, zero, suc, _+_, _*_, _/_, _<_}
+use Prim.Native.Nat.{ℕ, zero, suc, _+_, _-_, _*_, _/_, _<_}
 use native.Mathlib.Nat.{add-zero, add-assoc}
-use native.Mathlib.Numerals.{add-one, add-two}
+use native.Mathlib.Numerals.{add-one, add-two, sub-one}
 use native.Mathlib.Omega.{arith}
 use lib.Dec.{leb}
 use lib.ListN.{length, getD, take, drop, length-drop}
-use lib.Seq.{drop-cons, getD-drop}
+use lib.Seq.{drop-cons, drop-drop, getD-drop}
 use borrow.Author.Tests.{leb-false}
 use Rattle.words.specs.Pick.{pick}
-use Rattle.hexadecimal.specs.Hexadecimal.{digit, digits, byte, paired, big}
+use Rattle.hexadecimal.specs.Hexadecimal.{digit, digits, byte, paired, big, eights}
 
 passed : (b r : Bool) → pick b false r ≡ true → (b ≡ false) × (r ≡ true)
 passed true r h = (cc, cc)
@@ -39,6 +39,16 @@ unfolding paired
 length-paired [] = refl
 length-paired (h ∷ []) = refl
 length-paired (h ∷ l ∷ rest) = omega (arith, length-paired rest)
+
+pub eights-turn : (n at : ℕ) (s : List ℕ) → 0 < n → eights n (drop at s) ≡ big (take 8 (drop at s)) ∷ eights (n - 1) (drop (at + 8) s)
+unfolding eights
+eights-turn zero at s h = absurd (omega arith)
+eights-turn (suc n) at s h = rw (sub-one, drop-drop 8 at s)
+
+pub length-eights : (n : ℕ) (l : List ℕ) → length (eights n l) ≡ n
+unfolding eights
+length-eights zero l = refl
+length-eights (suc n) l = rw (length-eights n (drop 8 l))
 
 -- the number of eight digits, by their four bytes
 eight : (t : List ℕ) → 7 < length t

@@ -3,7 +3,7 @@ use mathlib.Core.Path.{_≡_, refl}
 use mathlib.Core.List.{[], _∷_, _++_}
 use mathlib.Core.Option.{none, some}
 use lib.ListN.{replicate}
-use Rattle.hexadecimal.specs.Hexadecimal.{digit, digits, byte, paired, big, factsOf, frameOf}
+use Rattle.hexadecimal.specs.Hexadecimal.{digit, digits, byte, paired, big, factsOf, eights, choiceOf, frameOf}
 use Rattle.hexadecimal.specs.declared.FactsLine.the-variants.{Facts, NoFacts}
 
 pub record Worked : Type 0 where
@@ -21,9 +21,15 @@ pub record Worked : Type 0 where
   pub short : factsOf (replicate 31 0x30) ≡ NoFacts
   -- 31 zeros and `g`
   pub another : factsOf (replicate 31 0x30 ++ 0x67 ∷ []) ≡ NoFacts
+  -- 7 zeros and `1`, 6 zeros and `1f`
+  pub two-people : choiceOf (replicate 7 0x30 ++ 0x31 ∷ replicate 6 0x30 ++ 0x31 ∷ 0x66 ∷ []) ≡ some (1 ∷ 31 ∷ [])
+  pub nobody : choiceOf [] ≡ some []
+  pub half-person : choiceOf (replicate 12 0x30) ≡ none
+  -- 7 zeros and `g`
+  pub no-person : choiceOf (replicate 7 0x30 ++ 0x67 ∷ []) ≡ none
 
 pub worked : Worked
-unfolding digit digits byte paired big factsOf frameOf
+unfolding digit digits byte paired big factsOf eights choiceOf frameOf
 worked =
     record {
       two-bytes = refl;
@@ -33,4 +39,8 @@ worked =
       facts = refl;
       short = refl;
       another = refl;
+      two-people = refl;
+      nobody = refl;
+      half-person = refl;
+      no-person = refl;
     }

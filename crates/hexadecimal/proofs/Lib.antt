@@ -1,3 +1,4 @@
+pub mod Choices
 pub mod Digits
 pub mod Examples
 pub mod Frames

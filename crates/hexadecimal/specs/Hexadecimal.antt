@@ -1,6 +1,7 @@
--- Lines of hexadecimal digits, as lists of character codes: the first line's facts, and the bytes of a record's line.
+-- Lines of hexadecimal digits, as lists of character codes: the first line's facts, the people of a choice's line, and the bytes of a
+-- record's line.
 -- Rests on nothing but the choice by a test.
-use Prim.Native.Nat.{ℕ, zero, suc, _+_, _-_, _*_, _%_, _^_, _≤_}
+use Prim.Native.Nat.{ℕ, zero, suc, _+_, _-_, _*_, _/_, _%_, _^_, _≤_}
 use mathlib.Core.List.{List, [], _∷_}
 use mathlib.Core.Bool.{Bool, true, false}
 use mathlib.Core.Option.{Option, none, some}
@@ -10,6 +11,8 @@ use lib.Seq.{sets}
 use Rattle.words.specs.Pick.{pick}
 use Rattle.hexadecimal.specs.declared.FactsLine.{FactsLine}
 use Rattle.hexadecimal.specs.declared.FactsLine.the-variants.{Facts, NoFacts}
+use Rattle.hexadecimal.specs.declared.ChoiceLine.{ChoiceLine}
+use Rattle.hexadecimal.specs.declared.ChoiceLine.the-variants.{People, Bad as BadChoice, NoRoom as NoRoomForPeople}
 use Rattle.hexadecimal.specs.declared.Frame.{Frame}
 use Rattle.hexadecimal.specs.declared.Frame.the-variants.{Bytes, Bad, NoRoom}
 
@@ -59,6 +62,27 @@ factsOf l =
     NoFacts)
     NoFacts
 
+-- the first so many numbers of a line of digits, eight digits each
+unfoldable pub eights : ℕ → List ℕ → List ℕ
+eights zero l = []
+eights (suc n) l = big (take 8 l) ∷ eights n (drop 8 l)
+
+-- a choice's line: none where it is bad, being over 60,000 digits, not eight digits a person, or with another character; else its people
+unfoldable pub choiceOf : List ℕ → Option (List ℕ)
+choiceOf l =
+    pick (ltb 60000 (length l)) none (pick (eqb (length l % 8) 0) (pick (digits l) (some (eights (length l / 8) l)) none) none)
+
+-- what is answered to a choice's line, where there is room for so many people
+abbrev pub counted : ℕ → Option (List ℕ) → ChoiceLine
+counted room none = BadChoice
+counted room (some cs) = pick (ltb room (length cs)) NoRoomForPeople (People (length cs))
+
+-- the people that were stored lie in a buffer of so many
+abbrev pub peopleInside : ℕ → ChoiceLine → Type 0
+peopleInside room (People n) = n ≤ room
+peopleInside room BadChoice = Unit {0}
+peopleInside room NoRoomForPeople = Unit {0}
+
 -- a record's line: none where it is bad, being over 60,000 digits, of odd length, or with another character; else its bytes
 unfoldable pub frameOf : List ℕ → Option (List ℕ)
 frameOf l = pick (ltb 60000 (length l)) none (pick (eqb (length l % 2) 1) none (pick (digits l) (some (paired l)) none))
@@ -74,7 +98,7 @@ bytesInside room (Bytes n) = n ≤ room
 bytesInside room Bad = Unit {0}
 bytesInside room NoRoom = Unit {0}
 
--- the buffer after a line: its bytes from the start on, where they have room
+-- the buffer after a line: its bytes or people from the start on, where they have room
 abbrev pub stored : List ℕ → Option (List ℕ) → List ℕ
 stored buf none = buf
 stored buf (some bs) = pick (ltb (length buf) (length bs)) buf (sets buf 0 bs)

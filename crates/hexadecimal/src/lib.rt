@@ -1,13 +1,16 @@
-// Lines of hexadecimal digits: the facts of the first line, and the bytes of a record's line.
+// Lines of hexadecimal digits: the facts of the first line, the people of a choice's line, and the bytes of a record's line.
 // Rests on words, for the way in which definitions choose.
 ghost use mathlib.Core.Path.{_≡_};
 ghost use mathlib.Core.Bool.{true};
 ghost use Prim.Native.Nat.{_+_, _*_, _<_, _≤_};
 ghost use lib.ListN.{drop, getD, length, take};
 ghost use lib.Seq.{sets};
-ghost use Rattle.hexadecimal.specs.Hexadecimal.{digit, valuesFrom, digits, byte, paired, big, factsOf, frameOf, answered, bytesInside, stored};
+ghost use Rattle.hexadecimal.specs.Hexadecimal.{digit, valuesFrom, digits, byte, paired, big, factsOf, eights, choiceOf, counted, peopleInside, frameOf, answered, bytesInside, stored};
 
 mod characters; // the value of each character as a digit
+
+// The most digits that a line may have, the first line apart.
+const MOST_DIGITS: usize = 60000;
 
 // The first line: its four numbers, or none where it is not 32 digits.
 pub enum FactsLine {
@@ -18,6 +21,13 @@ pub enum FactsLine {
         gt: u32,
     },
     NoFacts,
+}
+
+// A choice's line: so many people stored, a bad line, or a buffer that is too short.
+pub enum ChoiceLine {
+    People(usize),
+    Bad,
+    NoRoom,
 }
 
 // A record's line: so many bytes stored, a bad line, or a buffer that is too short.
@@ -96,6 +106,46 @@ pub fn facts_of(line: &[u8]) -> FactsLine
     FactsLine::NoFacts
 }
 
+// Stores the n people of a line of digits from the buffer's start on.
+fn store_people(table: &[u8; 256], line: &[u8], n: usize, choice: &mut [u32])
+    requires { ⌜ (now table ≡ valuesFrom 0 256) × (length (now line) ≡ n * 8) × (n ≤ length (now choice)) × (digits (now line) ≡ true) ⌝ }
+    ensures { λ _. ⌜ now (choice .exit) ≡ sets (now (choice .entry)) 0 (eights n (now (line .entry))) ⌝ }
+{
+    let mut left = n;
+    let mut at = 0;
+    let mut o = 0;
+    while 0 < left {
+        choice[o] = number_at(table, line, at);
+        o += 1;
+        at += 8;
+        left -= 1;
+    }
+}
+
+// A choice's line: its people stored from the buffer's start on; a bad line is told before a short buffer, and neither writes.
+pub fn read_choice(line: &[u8], choice: &mut [u32]) -> ChoiceLine
+    ensures told { λ r. ⌜ r ≡ counted (length (now (choice .entry))) (choiceOf (now (line .entry))) ⌝ }
+    ensures inside { λ r. ⌜ peopleInside (length (now (choice .entry))) r ⌝ }
+    ensures written { λ _. ⌜ now (choice .exit) ≡ stored (now (choice .entry)) (choiceOf (now (line .entry))) ⌝ }
+{
+    if MOST_DIGITS < line.len() {
+        return ChoiceLine::Bad;
+    }
+    if line.len() % 8 == 0 {
+        let table = characters::table();
+        if all_digits(&table, line) {
+            let n = line.len() / 8;
+            if choice.len() < n {
+                return ChoiceLine::NoRoom;
+            }
+            store_people(&table, line, n, choice);
+            return ChoiceLine::People(n);
+        }
+        return ChoiceLine::Bad;
+    }
+    ChoiceLine::Bad
+}
+
 // Stores the n bytes of a line of digits from the buffer's start on.
 fn store(table: &[u8; 256], line: &[u8], n: usize, buf: &mut [u8])
     requires { ⌜ (now table ≡ valuesFrom 0 256) × (length (now line) ≡ n * 2) × (n ≤ length (now buf)) × (digits (now line) ≡ true) ⌝ }
@@ -116,7 +166,7 @@ pub fn decode(line: &[u8], buf: &mut [u8]) -> Frame
     ensures inside { λ r. ⌜ bytesInside (length (now (buf .entry))) r ⌝ }
     ensures written { λ _. ⌜ now (buf .exit) ≡ stored (now (buf .entry)) (frameOf (now (line .entry))) ⌝ }
 {
-    if 60000 < line.len() {
+    if MOST_DIGITS < line.len() {
         return Frame::Bad;
     }
     if line.len() % 2 == 1 {

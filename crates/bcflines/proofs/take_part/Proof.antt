@@ -7,7 +7,7 @@ use Rattle.bcflines.proofs.take_part.Statement.{statement}
 use Rattle.bcflines.proofs.take_part.Tie as tie
 use Rattle.bcflines.proofs.take_part.Reads as reads
 use Rattle.bcflines.proofs.take_part.Lts as lts
-use Rattle.bcflines.proofs.hold.Reads as hold-reads
+use Rattle.lines.proofs.hold.Reads as hold-reads
 use Rattle.bcflines.proofs.take_line.Reads as take-line-reads
 
 -- src/main.rt:145:13

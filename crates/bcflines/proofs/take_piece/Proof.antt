@@ -7,7 +7,7 @@ use Rattle.bcflines.proofs.take_piece.Statement.{statement}
 use Rattle.bcflines.proofs.take_piece.Tie as tie
 use Rattle.bcflines.proofs.take_piece.Reads as reads
 use Rattle.bcflines.proofs.take_piece.Lts as lts
-use Rattle.bcflines.proofs.line_end.Reads as line-end-reads
+use Rattle.lines.proofs.line_end.Reads as line-end-reads
 use Rattle.bcflines.proofs.take_part.Reads as take-part-reads
 
 abbrev Inv-loop : tie.InvT-loop

@@ -1,0 +1,5 @@
+pub mod Cuts
+pub mod Fronts
+pub mod Releases
+pub mod Rooms
+pub mod Shorter
