@@ -1,12 +1,14 @@
 -- 32 bits and the signed number that they are, by way of 64 bits. Rests on the language's own reading of signed numbers.
-use mathlib.Core.Path.{_≡_, refl}
+use mathlib.Core.Path.{_≡_, refl, ap}
+use mathlib.Core.List.{List, map}
 use mathlib.Core.Bool.{true, false}
 use Prim.Native.Nat.{ℕ, suc, _-_, _+_, _≤_, _<_, _^_}
 use native.Mathlib.Omega.{arith}
 use borrow.Author.Tests.{lt-ltb, le-ltb, leb-false}
 use lib.Dec.{T}
 use lib.IntN.{ℤ, pos, negsuc, _+ℤ_, _-ℤ_, natAbs}
-use lib.Signed.{leZ, nonNeg}
+use lib.ListN.{getD, List·getD-map}
+use lib.Signed.{mag, leZ, nonNeg}
 use mir.Syntax.{Width, w32, w64}
 use mir.Facts.{toZ-ofZ, sfits-widen}
 use mir.Val.{toZ, ofZ, SFits, Fits}
@@ -31,6 +33,13 @@ negative-32 n l h = toZ-ofZ {w = w32} {z = negsuc (2 ^ 32 - suc n)} (record { sf
 -- a signed number read back, at 32 bits and then at 64
 pub back : (z : ℤ) → SFits w32 z → toZ w32 (ofZ w32 z) ≡ z
 back z f = toZ-ofZ {w = w32} {z = z} f
+
+-- the bits of a number that was read from a lent list
+pub bits-back : (z : ℤ) → mag z < 2 ^ 31 → ofZ w32 (toZ w32 (ofZ w32 z)) ≡ ofZ w32 z
+bits-back z h = ap (ofZ w32) (back z (record { sfits = h }))
+
+pub bits-at : (zs : List ℤ) (i : ℕ) → getD (map (ofZ w32) zs) i 0 ≡ ofZ w32 (getD zs i (pos 0))
+bits-at zs i = List·getD-map (ofZ w32) zs i (pos 0)
 
 pub back-wide : (z : ℤ) → SFits w32 z → toZ w64 (ofZ w64 (toZ w32 (ofZ w32 z))) ≡ z
 back-wide z f = rw (back z f) (toZ-ofZ {w = w64} {z = z} (sfits-widen {w = w32} {w′ = w64} {z = z} tt f))
