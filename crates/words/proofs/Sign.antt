@@ -34,18 +34,18 @@ negative-32 n l h = toZ-ofZ {w = w32} {z = negsuc (2 ^ 32 - suc n)} (record { sf
 pub back : (z : ℤ) → SFits w32 z → toZ w32 (ofZ w32 z) ≡ z
 back z f = toZ-ofZ {w = w32} {z = z} f
 
--- the bits of a number that was read from a lent list
-pub bits-back : (z : ℤ) → mag z < 2 ^ 31 → ofZ w32 (toZ w32 (ofZ w32 z)) ≡ ofZ w32 z
-bits-back z h = ap (ofZ w32) (back z (record { sfits = h }))
-
-pub bits-at : (zs : List ℤ) (i : ℕ) → getD (map (ofZ w32) zs) i 0 ≡ ofZ w32 (getD zs i (pos 0))
-bits-at zs i = List·getD-map (ofZ w32) zs i (pos 0)
-
 pub back-wide : (z : ℤ) → SFits w32 z → toZ w64 (ofZ w64 (toZ w32 (ofZ w32 z))) ≡ z
 back-wide z f = rw (back z f) (toZ-ofZ {w = w64} {z = z} (sfits-widen {w = w32} {w′ = w64} {z = z} tt f))
 
 pub back-64 : (n : ℕ) → n < 2 ^ 32 → toZ w64 (ofZ w64 (pos n)) ≡ pos n
 back-64 n h = toZ-ofZ {w = w64} {z = pos n} (record { sfits = omega arith })
+
+-- the bits of a number that is read from a lent list, and of each number of a list
+pub bits-back : (z : ℤ) → mag z < 2 ^ 31 → ofZ w32 (toZ w32 (ofZ w32 z)) ≡ ofZ w32 z
+bits-back z h = ap (ofZ w32) (back z (record { sfits = h }))
+
+pub bits-at : (zs : List ℤ) (i : ℕ) → getD (map (ofZ w32) zs) i 0 ≡ ofZ w32 (getD zs i (pos 0))
+bits-at zs i = List·getD-map (ofZ w32) zs i (pos 0)
 
 -- from 0 up: the number itself
 pub up : (z : ℤ) → SFits w32 z → leZ (pos 0) z ≡ true → T (nonNeg z) × Fits w32 (natAbs z)
