@@ -15,8 +15,6 @@ use Rattle.words.proofs.Sign.{bits-at}
 use Rattle.words.proofs.Stores.{sets-append}
 use Rattle.words.proofs.Words.{length-bytes}
 use Rattle.types.specs.Rows.{widthOf}
-use Rattle.stores.specs.Stores.{filled}
-use Rattle.stores.proofs.Room.{filled-room}
 use Rattle.encode.specs.Encode.{narrowed, elementsBytes}
 
 -- the room for one element, and for those behind it
@@ -27,19 +25,19 @@ element-room o n i w m h r =
     (omega arith, omega arith)
 
 -- the next element
-pub elements-turn : (buf : List ℕ) (o t : ℕ) (xs : List ℕ) (i : ℕ) → i < length xs → o + widthOf t ≤ length buf
+pub elements-turn : (buf : List ℕ) (o t : ℕ) (xs : List ℕ) (i : ℕ) → i < length xs
     → sets buf o (elementsBytes t (drop i xs))
-    ≡ sets (filled buf o (bytes (widthOf t) (narrowed t (getD xs i 0)))) (o + widthOf t) (elementsBytes t (drop (i + 1) xs))
+    ≡ sets (sets buf o (bytes (widthOf t) (narrowed t (getD xs i 0)))) (o + widthOf t) (elementsBytes t (drop (i + 1) xs))
 unfolding elementsBytes
-elements-turn buf o t xs i h r =
+elements-turn buf o t xs i h =
     let b = bytes (widthOf t) (narrowed t (getD xs i 0)) in
     let n = length-bytes (widthOf t) (narrowed t (getD xs i 0)) in
-    rw (drop-cons xs i 0 h, add-one i, sets-append b (elementsBytes t (drop (suc i) xs)) buf o, n, filled-room buf o b (rw n r))
+    rw (drop-cons xs i 0 h, add-one i, sets-append b (elementsBytes t (drop (suc i) xs)) buf o, n)
 
-pub elements-turn-bits : (buf : List ℕ) (o t : ℕ) (zs : List ℤ) (i : ℕ) → i < length zs → o + widthOf t ≤ length buf
+pub elements-turn-bits : (buf : List ℕ) (o t : ℕ) (zs : List ℤ) (i : ℕ) → i < length zs
     → sets buf o (elementsBytes t (drop i (map (ofZ w32) zs)))
-    ≡ sets (filled buf o (bytes (widthOf t) (narrowed t (ofZ w32 (getD zs i (pos 0)))))) (o + widthOf t) (elementsBytes t (drop (i + 1) (map (ofZ w32) zs)))
-elements-turn-bits buf o t zs i h r = rw (← bits-at zs i) (elements-turn buf o t (map (ofZ w32) zs) i (rw length-map h) r)
+    ≡ sets (sets buf o (bytes (widthOf t) (narrowed t (ofZ w32 (getD zs i (pos 0)))))) (o + widthOf t) (elementsBytes t (drop (i + 1) (map (ofZ w32) zs)))
+elements-turn-bits buf o t zs i h = rw (← bits-at zs i) (elements-turn buf o t (map (ofZ w32) zs) i (rw length-map h))
 
 -- no element is left
 pub elements-end : (buf : List ℕ) (o t : ℕ) (xs : List ℕ) (i : ℕ) → length xs ≤ i → sets buf o (elementsBytes t (drop i xs)) ≡ buf

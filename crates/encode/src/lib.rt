@@ -2,13 +2,24 @@
 // Rests on types for what an element is, and on stores for what is written.
 ghost use mathlib.Core.Path.{_≡_};
 ghost use mathlib.Core.List.{map};
-ghost use Prim.Native.Nat.{_≤_, max};
+ghost use mathlib.Core.Logic.{_≢_};
+ghost use Prim.Native.Nat.{_+_, _≤_, max};
 ghost use lib.ListN.{length};
+ghost use lib.Seq.{sets};
 ghost use mir.Syntax.{w32};
 ghost use mir.Val.{ofZ};
+ghost use Rattle.words.specs.Words.{bytes};
 ghost use Rattle.stores.specs.Stores.{fits, filled};
 ghost use Rattle.types.specs.Elements.{kind, narrowest};
 ghost use Rattle.encode.specs.Encode.{integerBytes, descriptorBytes, typeFor, widest, markedAs, narrowed, elementsBytes};
+
+// The narrowest type that takes an integer, given by its 32 bits: with its range a code is put together without a bound of its own.
+fn narrowest_code(bits: u32) -> u8
+    ensures { λ r. ⌜ r ≡ narrowest bits ⌝ }
+    ensures { λ r. ⌜ (1 ≤ r) × (r ≤ 3) ⌝ }
+{
+    types::narrowest_type(bits)
+}
 
 // The type that an integer, given by its 32 bits, takes by itself: a mark takes the narrowest.
 fn type_for(bits: u32) -> u8
@@ -22,14 +33,6 @@ fn type_for(bits: u32) -> u8
         return 1;
     }
     narrowest_code(bits)
-}
-
-// The narrowest type that takes an integer, given by its 32 bits: with its range a code is put together without a bound of its own.
-fn narrowest_code(bits: u32) -> u8
-    ensures { λ r. ⌜ r ≡ narrowest bits ⌝ }
-    ensures { λ r. ⌜ (1 ≤ r) × (r ≤ 3) ⌝ }
-{
-    types::narrowest_type(bits)
 }
 
 // The larger of two types.
@@ -144,6 +147,31 @@ fn narrow(code: u8, bits: u32) -> u32
     bits
 }
 
+// Stores the low bytes of a number, as many as an element is wide. One width after the other, without a loop: it stands in one itself.
+fn store(buf: &mut [u8], at: usize, width: u8, v: u32)
+    requires { ⌜ (at + width ≤ length (now buf)) × (width ≤ 4) × (width ≢ 3) ⌝ }
+    ensures { λ _. ⌜ now (buf .exit) ≡ sets (now (buf .entry)) at (bytes width v) ⌝ }
+{
+    let second = v / 256;
+    let third = second / 256;
+    if width == 4 {
+        buf[at] = (v % 256) as u8;
+        buf[at + 1] = (second % 256) as u8;
+        buf[at + 2] = (third % 256) as u8;
+        buf[at + 3] = (third / 256 % 256) as u8;
+        return;
+    }
+    if width == 2 {
+        buf[at] = (v % 256) as u8;
+        buf[at + 1] = (second % 256) as u8;
+        return;
+    }
+    if width == 0 {
+        return;
+    }
+    buf[at] = (v % 256) as u8;
+}
+
 // Stores integers in a type, one after the other, and says whether there was room.
 pub fn put_integers(buf: &mut [u8], at: usize, code: u8, values: &[i32]) -> bool
     ensures told { λ r. ⌜ r ≡ fits (length (now (buf .entry))) at (length (elementsBytes code (map (ofZ w32) (now (values .entry))))) ⌝ }
@@ -157,7 +185,7 @@ pub fn put_integers(buf: &mut [u8], at: usize, code: u8, values: &[i32]) -> bool
     let mut o = at;
     let mut i = 0;
     while i < values.len() {
-        stores::put_number(buf, o, w, narrow(code, words::bits(values[i])));
+        store(buf, o, w, narrow(code, words::bits(values[i])));
         o += w as usize;
         i += 1;
     }
@@ -175,7 +203,7 @@ pub fn put_floats(buf: &mut [u8], at: usize, bits: &[u32]) -> bool
     let mut o = at;
     let mut i = 0;
     while i < bits.len() {
-        stores::put_number(buf, o, 4, bits[i]);
+        store(buf, o, 4, bits[i]);
         o += 4;
         i += 1;
     }

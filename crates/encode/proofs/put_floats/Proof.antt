@@ -17,7 +17,7 @@ use Rattle.encode.proofs.put_floats.Tie as tie
 use Rattle.encode.proofs.put_floats.Reads as reads
 use Rattle.encode.proofs.put_floats.Lts as lts
 use Rattle.stores.proofs.has_room.Reads as has-room-reads
-use Rattle.stores.proofs.put_number.Reads as put-number-reads
+use Rattle.encode.proofs.store.Reads as store-reads
 
 abbrev Inv-loop : tie.InvT-loop
 Inv-loop buf₀ at bits o₀ i₀ buf o i =
@@ -57,16 +57,16 @@ loop-holds c =
     (refl, rw sub-zero q, refl, omega arith)
 
 -- src/lib.rt:178:39
-mul-put-number : tie.Need-mul-put-number Inv-loop μ-loop
-mul-put-number c = search needs
+mul-store : tie.Need-mul-store Inv-loop μ-loop
+mul-store c = search needs
 
 -- src/lib.rt:178:39
-shared-slice-read-put-number : tie.Need-shared-slice-read-put-number Inv-loop μ-loop
-shared-slice-read-put-number c = search needs
+shared-slice-read-store : tie.Need-shared-slice-read-store Inv-loop μ-loop
+shared-slice-read-store c = search needs
 
 -- src/lib.rt:178:9
-put-number-requires : tie.Need-put-number-requires Inv-loop μ-loop
-put-number-requires c κs = search needs
+store-requires : tie.Need-store-requires Inv-loop μ-loop
+store-requires c κs = search needs
 
 -- src/lib.rt:179:9
 add-o : tie.Need-add-o Inv-loop μ-loop
@@ -87,10 +87,8 @@ unfolding widthOf rowOf narrowed
 loop-again c =
     let l = c .before .before .before .before .before .before .loop in
     let a = c .before .before .before .before .before .before .before .before .before .before .before .args in
-    let h = c .before .before .before .before .before .loop-test .taken in
-    let k = c .before .before .put-number .kept .0 in
-    let t = elements-turn (l .buf) (l .o) 5 (a .bits .now) (l .i) h (omega arith) in
-    (l .inv .0 ∙ t ∙ rw (c .before .before .put-number .ensures .1), omega arith, k ∙ l .inv .2, omega arith)
+    let t = elements-turn (l .buf) (l .o) 5 (a .bits .now) (l .i) (c .before .before .before .before .before .loop-test .taken) in
+    (l .inv .0 ∙ t ∙ rw (c .before .before .store .ensures), omega arith, c .before .before .store .kept .0 ∙ l .inv .2, omega arith)
 
 -- src/lib.rt:168:1
 same-length : tie.Need-same-length Inv-loop μ-loop
@@ -117,9 +115,9 @@ put-floats-spec =
     has-room-requires
     returns
     loop-holds
-    mul-put-number
-    shared-slice-read-put-number
-    put-number-requires
+    mul-store
+    shared-slice-read-store
+    store-requires
     add-o
     add-i
     loop-less

@@ -23,7 +23,7 @@ use Rattle.encode.proofs.put_integers.Reads as reads
 use Rattle.encode.proofs.put_integers.Lts as lts
 use Rattle.encode.proofs.narrow.Reads as narrow-reads
 use Rattle.stores.proofs.has_room.Reads as has-room-reads
-use Rattle.stores.proofs.put_number.Reads as put-number-reads
+use Rattle.encode.proofs.store.Reads as store-reads
 use Rattle.types.proofs.row_of.Reads as row-of-reads
 use Rattle.words.proofs.bits.Reads as bits-reads
 
@@ -95,8 +95,13 @@ narrow-requires : tie.Need-narrow-requires Inv-loop μ-loop
 narrow-requires c κs = search needs
 
 -- src/lib.rt:160:9
-put-number-requires : tie.Need-put-number-requires Inv-loop μ-loop
-put-number-requires c κs = search needs
+store-requires : tie.Need-store-requires Inv-loop μ-loop
+store-requires c κs =
+    let l = c .before .before .before .before .before .loop in
+    let a = c .before .before .before .before .before .before .before .before .before .before .args in
+    let w = c .before .before .before .before .before .before .before .before .row-of .ensures .1 in
+    let r = element-room (l .o) (length (a .values .now)) (l .i) (c .before .before .before .before .before .before .before .before .row-of .result .width) (length (a .buf .now)) (c .before .before .before .before .loop-test .taken) (l .inv .1) in
+    (rw (l .inv .2) (r .0), w .1, w .2)
 
 -- src/lib.rt:161:14
 cast-o : tie.Need-cast-o Inv-loop μ-loop
@@ -129,9 +134,8 @@ loop-again c =
     let z = getD (a .values .now) (l .i) (pos 0) in
     let b : c .before .before .before .before .bits .result ≡ ofZ w32 z = c .before .before .before .before .bits .ensures ∙ bits-back z (c .before .before .before .before .before .bits-arg .given) in
     let v : c .before .before .before .narrow .result ≡ narrowed (a .code) (ofZ w32 z) = c .before .before .before .narrow .ensures ∙ rw b in
-    let k = c .before .before .put-number .kept .0 in
-    let t = elements-turn-bits (l .buf) (l .o) (a .code) (a .values .now) (l .i) h (rw (← w, l .inv .2) (r .0)) in
-    (l .inv .0 ∙ t ∙ rw (c .before .before .put-number .ensures .1, w, v), r .1, k ∙ l .inv .2, omega arith)
+    let t = elements-turn-bits (l .buf) (l .o) (a .code) (a .values .now) (l .i) h in
+    (l .inv .0 ∙ t ∙ rw (c .before .before .store .ensures, w, v), r .1, c .before .before .store .kept .0 ∙ l .inv .2, omega arith)
 
 -- src/lib.rt:148:1
 same-length : tie.Need-same-length Inv-loop μ-loop
@@ -165,7 +169,7 @@ put-integers-spec =
     shared-slice-copy-out-bits
     bits-requires
     narrow-requires
-    put-number-requires
+    store-requires
     cast-o
     add-o
     add-i
