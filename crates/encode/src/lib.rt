@@ -22,17 +22,17 @@ fn narrowest_code(bits: u32) -> u8
 }
 
 // The type that an integer, given by its 32 bits, takes by itself: a mark takes the narrowest.
-fn type_for(bits: u32) -> u8
-    ensures { λ r. ⌜ r ≡ typeFor (kind 3 bits) bits ⌝ }
+fn type_for(x: u32) -> u8
+    ensures { λ r. ⌜ r ≡ typeFor (kind 3 x) x ⌝ }
     ensures { λ r. ⌜ (1 ≤ r) × (r ≤ 3) ⌝ }
 {
-    if bits == 0x80000000 {
+    if x == 0x80000000 {
         return 1;
     }
-    if bits == 0x80000001 {
+    if x == 0x80000001 {
         return 1;
     }
-    narrowest_code(bits)
+    narrowest_code(x)
 }
 
 // The larger of two types.
@@ -112,12 +112,12 @@ pub fn put_descriptor(buf: &mut [u8], at: usize, code: u8, n: u32) -> bool
     if !stores::has_room(buf.len(), at, descriptor_size(n as usize)) {
         return false;
     }
-    if n < 15 {
-        buf[at] = n as u8 * 16 + code % 16;
-        return true;
+    if 15 <= n {
+        buf[at] = 0xF0 + code % 16;
+        return put_integer(buf, at + 1, n);
     }
-    buf[at] = 0xF0 + code % 16;
-    put_integer(buf, at + 1, n)
+    buf[at] = n as u8 * 16 + code % 16;
+    true
 }
 
 // The number whose low bytes are written for an integer of a narrow type, whose missing mark is given: a mark as that type's own.

@@ -31,7 +31,7 @@ returns-3 : tie.Need-returns-3
 returns-3 c =
     let a = c .before .before .before .args in
     let n = c .narrowest-code .ensures in
-    (n .0 ∙ sym (type-plain (a .bits) (c .before .before .if1 .left) (c .before .if2 .left)), n .1)
+    (n .0 ∙ sym (type-plain (a .x) (c .before .before .if1 .left) (c .before .if2 .left)), n .1)
 
 pub type-for-spec : {M : Type 1} → statement M
 type-for-spec = tie.close (tie.spec returns returns-2 narrowest-code-requires returns-3)
