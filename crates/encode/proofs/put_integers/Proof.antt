@@ -72,9 +72,6 @@ returns c =
 loop-holds : tie.Need-loop-holds Inv-loop μ-loop
 loop-holds c =
     let a = c .before .before .before .before .args in
-    let xs = map (ofZ w32) (a .values .now) in
-    let w : c .before .before .row-of .result .width ≡ widthOf (a .code) = c .before .before .row-of .ensures .1 .0 in
-    let n : length (elementsBytes (a .code) xs) ≡ length (a .values .now) * c .before .before .row-of .result .width = length-elementsBytes (a .code) xs ∙ rw (length-map (a .values .now) (ofZ w32), w) in
     let q : a .at + length (a .values .now) * c .before .before .row-of .result .width ≤ length (a .buf .now) = room-there _ _ _ (sym (c .before .has-room .ensures) ∙ not-false _ (c .if1 .left)) in
     (refl, rw sub-zero q, refl, omega arith)
 
