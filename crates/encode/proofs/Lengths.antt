@@ -1,12 +1,14 @@
--- How long what is written is. Rests on the definitions of specs/Encode.
+-- How long what is written is, and that text is written as it is. Rests on the definitions of specs/Encode.
 use mathlib.Core.Path.{_≡_, refl}
 use mathlib.Core.List.{List, [], _∷_}
 use mathlib.Core.Bool.{Bool, true, false}
-use Prim.Native.Nat.{ℕ, _+_, _*_, _%_, _<_}
+use Prim.Native.Nat.{ℕ, suc, _+_, _*_, _%_, _<_}
 use native.Mathlib.Omega.{arith}
 use native.Mathlib.Nat.{suc-mul, zero-mul}
 use lib.Dec.{ltb}
-use lib.ListN.{length, length-append}
+use lib.ListN.{length, getD, length-append}
+use mir.Syntax.{w8}
+use mir.Val.{Fits}
 use Rattle.words.specs.Pick.{pick}
 use Rattle.words.specs.Words.{bytes, Bytes}
 use Rattle.words.proofs.Words.{length-bytes}
@@ -51,3 +53,8 @@ text-elements [] h = refl
 text-elements (x ∷ xs) h =
     let q : x % 256 ≡ x = let p : x < 256 = h .0 in omega arith in
     rw (q, text-elements xs (h .1))
+
+-- each number of lent text is a byte
+pub text-Bytes : (xs : List ℕ) → ((i : ℕ) → Fits w8 (getD xs i 0)) → Bytes xs
+text-Bytes [] h = tt
+text-Bytes (x ∷ xs) h = ((h 0) .fits, text-Bytes xs (λ i. h (suc i)))
