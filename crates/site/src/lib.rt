@@ -51,7 +51,7 @@ fn past_elements(j: Judged, first: usize, stop: usize) -> Step
 }
 
 // An allele's bytes, each from 21 to 7E; places count from the part's start.
-fn judge_allele(part: &[u8]) -> Judged
+pub fn judge_allele(part: &[u8]) -> Judged
     ensures { λ r. ⌜ r ≡ alleleBytes 0 (now (part .entry)) ⌝ }
     ensures { λ r. ⌜ judgedInside (length (now (part .entry))) r ⌝ }
 {

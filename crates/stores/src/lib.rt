@@ -5,6 +5,19 @@ ghost use lib.ListN.{length};
 ghost use Rattle.words.specs.Words.{bytes};
 ghost use Rattle.stores.specs.Stores.{fits, filled};
 
+// Whether so many bytes from a place on lie in a buffer of `room` bytes.
+pub fn has_room(room: usize, at: usize, n: usize) -> bool
+    ensures { λ r. ⌜ r ≡ fits room at n ⌝ }
+{
+    if room < at {
+        return false;
+    }
+    if room - at < n {
+        return false;
+    }
+    true
+}
+
 // Stores a part at a place, and says whether there was room; where there is none, nothing is stored.
 pub fn put(buf: &mut [u8], at: usize, part: &[u8]) -> bool
     ensures told { λ r. ⌜ r ≡ fits (length (now (buf .entry))) at (length (now (part .entry))) ⌝ }

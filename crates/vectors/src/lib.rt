@@ -21,13 +21,13 @@ pub enum Judged {
 }
 
 // An element judged: refused with a number, or passed, with whether the vector has ended.
-enum Turn {
+pub enum Turn {
     Bad(u32),
     On(bool),
 }
 
 // One element's turn, after an end of vector or not.
-fn judge_one(code: u8, most: u32, ended: bool, raw: u32) -> Turn
+pub fn judge_one(code: u8, most: u32, ended: bool, raw: u32) -> Turn
     ensures { λ r. ⌜ r ≡ turned most ended (kind code raw) raw ⌝ }
 {
     let k = types::element_of(code, raw);
@@ -53,7 +53,7 @@ fn judge_one(code: u8, most: u32, ended: bool, raw: u32) -> Turn
 }
 
 // A turn that was refused, at its place.
-fn stop_at(t: Turn, at: usize) -> Judged
+pub fn stop_at(t: Turn, at: usize) -> Judged
     ensures { λ r. ⌜ r ≡ stopped at t ⌝ }
 {
     match t {

@@ -1,12 +1,14 @@
 -- 32 bits and the signed number that they are, by way of 64 bits. Rests on the language's own reading of signed numbers.
-use mathlib.Core.Path.{_≡_, refl}
+use mathlib.Core.Path.{_≡_, refl, ap}
+use mathlib.Core.List.{List, map}
 use mathlib.Core.Bool.{true, false}
 use Prim.Native.Nat.{ℕ, suc, _-_, _+_, _≤_, _<_, _^_}
 use native.Mathlib.Omega.{arith}
 use borrow.Author.Tests.{lt-ltb, le-ltb, leb-false}
 use lib.Dec.{T}
 use lib.IntN.{ℤ, pos, negsuc, _+ℤ_, _-ℤ_, natAbs}
-use lib.Signed.{leZ, nonNeg}
+use lib.ListN.{getD, List·getD-map}
+use lib.Signed.{mag, leZ, nonNeg}
 use mir.Syntax.{Width, w32, w64}
 use mir.Facts.{toZ-ofZ, sfits-widen}
 use mir.Val.{toZ, ofZ, SFits, Fits}
@@ -37,6 +39,13 @@ back-wide z f = rw (back z f) (toZ-ofZ {w = w64} {z = z} (sfits-widen {w = w32} 
 
 pub back-64 : (n : ℕ) → n < 2 ^ 32 → toZ w64 (ofZ w64 (pos n)) ≡ pos n
 back-64 n h = toZ-ofZ {w = w64} {z = pos n} (record { sfits = omega arith })
+
+-- the bits of a number that is read from a lent list, and of each number of a list
+pub bits-back : (z : ℤ) → mag z < 2 ^ 31 → ofZ w32 (toZ w32 (ofZ w32 z)) ≡ ofZ w32 z
+bits-back z h = ap (ofZ w32) (back z (record { sfits = h }))
+
+pub bits-at : (zs : List ℤ) (i : ℕ) → getD (map (ofZ w32) zs) i 0 ≡ ofZ w32 (getD zs i (pos 0))
+bits-at zs i = List·getD-map (ofZ w32) zs i (pos 0)
 
 -- from 0 up: the number itself
 pub up : (z : ℤ) → SFits w32 z → leZ (pos 0) z ≡ true → T (nonNeg z) × Fits w32 (natAbs z)

@@ -1,0 +1,60 @@
+-- How long what is written is, and that text is written as it is. Rests on the definitions of specs/Encode.
+use mathlib.Core.Path.{_≡_, refl}
+use mathlib.Core.List.{List, [], _∷_}
+use mathlib.Core.Bool.{Bool, true, false}
+use Prim.Native.Nat.{ℕ, suc, _+_, _*_, _%_, _<_}
+use native.Mathlib.Omega.{arith}
+use native.Mathlib.Nat.{suc-mul, zero-mul}
+use lib.Dec.{ltb}
+use lib.ListN.{length, getD, length-append}
+use mir.Syntax.{w8}
+use mir.Val.{Fits}
+use Rattle.words.specs.Pick.{pick}
+use Rattle.words.specs.Words.{bytes, Bytes}
+use Rattle.words.proofs.Words.{length-bytes}
+use Rattle.types.specs.Rows.{widthOf, rowOf}
+use Rattle.types.specs.Elements.{narrowest}
+use Rattle.encode.specs.Encode.{integerBytes, descriptorBytes, narrowed, elementsBytes, valueBytes}
+
+-- an integer: its descriptor, and as many bytes as its type is wide
+pub length-integerBytes : (x : ℕ) → length (integerBytes x) ≡ 1 + widthOf (narrowest x)
+unfolding integerBytes
+length-integerBytes x = rw (length-bytes (widthOf (narrowest x)) x) (omega arith)
+
+-- a descriptor, whatever its type is
+pub length-descriptorBytes : (t n : ℕ) → length (descriptorBytes t n) ≡ pick (ltb n 15) 1 (1 + length (integerBytes n))
+unfolding descriptorBytes
+length-descriptorBytes t n = by-length (ltb n 15)
+  where
+    by-length : (b : Bool)
+        → length (pick b ((n * 16 + t % 16) ∷ []) ((0xF0 + t % 16) ∷ integerBytes n)) ≡ pick b 1 (1 + length (integerBytes n))
+    by-length true = refl
+    by-length false = omega arith
+
+pub length-descriptor-any : (t u n : ℕ) → length (descriptorBytes t n) ≡ length (descriptorBytes u n)
+length-descriptor-any t u n = rw (length-descriptorBytes t n, length-descriptorBytes u n)
+
+-- elements: each as wide as their type
+pub length-elementsBytes : (t : ℕ) (xs : List ℕ) → length (elementsBytes t xs) ≡ length xs * widthOf t
+unfolding elementsBytes
+length-elementsBytes t [] = rw zero-mul
+length-elementsBytes t (x ∷ xs) =
+    rw (length-append, length-bytes (widthOf t) (narrowed t x), length-elementsBytes t xs) (omega (arith, suc-mul (length xs) (widthOf t)))
+
+-- a value
+pub length-valueBytes : (t n : ℕ) (xs : List ℕ) → length (valueBytes t n xs) ≡ length (descriptorBytes 0 n) + length xs * widthOf t
+unfolding valueBytes
+length-valueBytes t n xs = rw (length-append, length-descriptor-any t 0 n, length-elementsBytes t xs)
+
+-- text is written as it is
+pub text-elements : (xs : List ℕ) → Bytes xs → elementsBytes 7 xs ≡ xs
+unfolding elementsBytes narrowed widthOf rowOf bytes
+text-elements [] h = refl
+text-elements (x ∷ xs) h =
+    let q : x % 256 ≡ x = let p : x < 256 = h .0 in omega arith in
+    rw (q, text-elements xs (h .1))
+
+-- each number of lent text is a byte
+pub text-Bytes : (xs : List ℕ) → ((i : ℕ) → Fits w8 (getD xs i 0)) → Bytes xs
+text-Bytes [] h = tt
+text-Bytes (x ∷ xs) h = ((h 0) .fits, text-Bytes xs (λ i. h (suc i)))

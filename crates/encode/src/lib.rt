@@ -1,0 +1,211 @@
+// How values are written into a lent buffer: keys, descriptors and elements in the narrowest types.
+// Rests on types for what an element is, and on stores for what is written.
+ghost use mathlib.Core.Path.{_≡_};
+ghost use mathlib.Core.List.{map};
+ghost use mathlib.Core.Logic.{_≢_};
+ghost use Prim.Native.Nat.{_+_, _≤_, max};
+ghost use lib.ListN.{length};
+ghost use lib.Seq.{sets};
+ghost use mir.Syntax.{w32};
+ghost use mir.Val.{ofZ};
+ghost use Rattle.words.specs.Words.{bytes};
+ghost use Rattle.stores.specs.Stores.{fits, filled};
+ghost use Rattle.types.specs.Elements.{kind, narrowest};
+ghost use Rattle.encode.specs.Encode.{integerBytes, descriptorBytes, typeFor, widest, markedAs, narrowed, elementsBytes};
+
+// The narrowest type that takes an integer, given by its 32 bits: with its range a code is put together without a bound of its own.
+fn narrowest_code(bits: u32) -> u8
+    ensures { λ r. ⌜ r ≡ narrowest bits ⌝ }
+    ensures { λ r. ⌜ (1 ≤ r) × (r ≤ 3) ⌝ }
+{
+    types::narrowest_type(bits)
+}
+
+// The type that an integer, given by its 32 bits, takes by itself: a mark takes the narrowest.
+fn type_for(x: u32) -> u8
+    ensures { λ r. ⌜ r ≡ typeFor (kind 3 x) x ⌝ }
+    ensures { λ r. ⌜ (1 ≤ r) × (r ≤ 3) ⌝ }
+{
+    if x == 0x80000000 {
+        return 1;
+    }
+    if x == 0x80000001 {
+        return 1;
+    }
+    narrowest_code(x)
+}
+
+// The larger of two types.
+fn wider(a: u8, b: u8) -> u8
+    ensures { λ r. ⌜ r ≡ max a b ⌝ }
+{
+    if a < b {
+        return b;
+    }
+    a
+}
+
+// The type in which integers are written: that of the widest which is no mark.
+pub fn widest_type(values: &[i32]) -> u8
+    ensures { λ r. ⌜ r ≡ widest (map (ofZ w32) (now (values .entry))) ⌝ }
+    ensures { λ r. ⌜ (1 ≤ r) × (r ≤ 3) ⌝ }
+{
+    let mut code = 1;
+    let mut i = 0;
+    while i < values.len() {
+        code = wider(code, type_for(words::bits(values[i])));
+        i += 1;
+    }
+    code
+}
+
+// The bytes that an integer takes, with its descriptor.
+pub fn integer_size(bits: usize) -> usize
+    ensures { λ r. ⌜ r ≡ length (integerBytes bits) ⌝ }
+    ensures { λ r. ⌜ r ≤ 5 ⌝ }
+{
+    if bits <= 127 {
+        return 2;
+    }
+    if 0xFFFFFF88 <= bits {
+        return 2;
+    }
+    if bits <= 32767 {
+        return 3;
+    }
+    if 0xFFFF8008 <= bits {
+        return 3;
+    }
+    5
+}
+
+// The bytes that a descriptor takes, by the length that it tells; its type makes no difference.
+pub fn descriptor_size(n: usize) -> usize
+    ensures { λ r. ⌜ r ≡ length (descriptorBytes 0 n) ⌝ }
+    ensures { λ r. ⌜ r ≤ 6 ⌝ }
+{
+    if n < 15 {
+        return 1;
+    }
+    1 + integer_size(n)
+}
+
+// Stores an integer with a descriptor of its own, in the narrowest type, and says whether there was room.
+pub fn put_integer(buf: &mut [u8], at: usize, bits: u32) -> bool
+    ensures told { λ r. ⌜ r ≡ fits (length (now (buf .entry))) at (length (integerBytes bits)) ⌝ }
+    ensures written { λ _. ⌜ now (buf .exit) ≡ filled (now (buf .entry)) at (integerBytes bits) ⌝ }
+{
+    let code = narrowest_code(bits);
+    let row = types::row_of(code);
+    if !stores::has_room(buf.len(), at, 1 + row.width as usize) {
+        return false;
+    }
+    buf[at] = 16 + code;
+    stores::put_number(buf, at + 1, row.width, bits)
+}
+
+// Stores a descriptor of a type and a length, and says whether there was room.
+pub fn put_descriptor(buf: &mut [u8], at: usize, code: u8, n: u32) -> bool
+    ensures told { λ r. ⌜ r ≡ fits (length (now (buf .entry))) at (length (descriptorBytes code n)) ⌝ }
+    ensures written { λ _. ⌜ now (buf .exit) ≡ filled (now (buf .entry)) at (descriptorBytes code n) ⌝ }
+{
+    if !stores::has_room(buf.len(), at, descriptor_size(n as usize)) {
+        return false;
+    }
+    if 15 <= n {
+        buf[at] = 0xF0 + code % 16;
+        return put_integer(buf, at + 1, n);
+    }
+    buf[at] = n as u8 * 16 + code % 16;
+    true
+}
+
+// The number whose low bytes are written for an integer of a narrow type, whose missing mark is given: a mark as that type's own.
+fn mark_as(missing: u32, bits: u32) -> u32
+    requires { ⌜ missing ≤ 32768 ⌝ }
+    ensures { λ r. ⌜ r ≡ markedAs missing bits ⌝ }
+{
+    if bits == 0x80000000 {
+        return missing;
+    }
+    if bits == 0x80000001 {
+        return missing + 1;
+    }
+    bits
+}
+
+// The number whose low bytes are written for an element of a type, given by its 32 bits.
+fn narrow(code: u8, bits: u32) -> u32
+    ensures { λ r. ⌜ r ≡ narrowed code bits ⌝ }
+{
+    if code == 1 {
+        return mark_as(0x80, bits);
+    }
+    if code == 2 {
+        return mark_as(0x8000, bits);
+    }
+    bits
+}
+
+// Stores the low bytes of a number, as many as an element is wide. One width after the other, without a loop: it stands in one itself.
+fn store(buf: &mut [u8], at: usize, width: u8, v: u32)
+    requires { ⌜ (at + width ≤ length (now buf)) × (width ≤ 4) × (width ≢ 3) ⌝ }
+    ensures { λ _. ⌜ now (buf .exit) ≡ sets (now (buf .entry)) at (bytes width v) ⌝ }
+{
+    let second = v / 256;
+    let third = second / 256;
+    if width == 4 {
+        buf[at] = (v % 256) as u8;
+        buf[at + 1] = (second % 256) as u8;
+        buf[at + 2] = (third % 256) as u8;
+        buf[at + 3] = (third / 256 % 256) as u8;
+        return;
+    }
+    if width == 2 {
+        buf[at] = (v % 256) as u8;
+        buf[at + 1] = (second % 256) as u8;
+        return;
+    }
+    if width == 0 {
+        return;
+    }
+    buf[at] = (v % 256) as u8;
+}
+
+// Stores integers in a type, one after the other, and says whether there was room.
+pub fn put_integers(buf: &mut [u8], at: usize, code: u8, values: &[i32]) -> bool
+    ensures told { λ r. ⌜ r ≡ fits (length (now (buf .entry))) at (length (elementsBytes code (map (ofZ w32) (now (values .entry))))) ⌝ }
+    ensures written { λ _. ⌜ now (buf .exit) ≡ filled (now (buf .entry)) at (elementsBytes code (map (ofZ w32) (now (values .entry)))) ⌝ }
+{
+    let row = types::row_of(code);
+    let w = row.width;
+    if !stores::has_room(buf.len(), at, values.len() * w as usize) {
+        return false;
+    }
+    let mut o = at;
+    let mut i = 0;
+    while i < values.len() {
+        store(buf, o, w, narrow(code, words::bits(values[i])));
+        o += w as usize;
+        i += 1;
+    }
+    true
+}
+
+// Stores floats, given by their 32 bits, one after the other, and says whether there was room.
+pub fn put_floats(buf: &mut [u8], at: usize, bits: &[u32]) -> bool
+    ensures told { λ r. ⌜ r ≡ fits (length (now (buf .entry))) at (length (elementsBytes 5 (now (bits .entry)))) ⌝ }
+    ensures written { λ _. ⌜ now (buf .exit) ≡ filled (now (buf .entry)) at (elementsBytes 5 (now (bits .entry))) ⌝ }
+{
+    if !stores::has_room(buf.len(), at, bits.len() * 4) {
+        return false;
+    }
+    let mut o = at;
+    let mut i = 0;
+    while i < bits.len() {
+        store(buf, o, 4, bits[i]);
+        o += 4;
+        i += 1;
+    }
+    true
+}

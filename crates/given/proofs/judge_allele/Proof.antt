@@ -1,0 +1,27 @@
+-- `given::judge_allele` meets its contract.
+use mathlib.Core.Path.{_∙_}
+use Rattle.given.specs.Given.{alleleNumber}
+use borrow.Author.Needs.{needs}
+use Rattle.given.proofs.judge_allele.Statement.{statement}
+use Rattle.given.proofs.judge_allele.Tie as tie
+use Rattle.given.proofs.judge_allele.Reads as reads
+use Rattle.given.proofs.judge_allele.Lts as lts
+use Rattle.given.proofs.number_of.Reads as number-of-reads
+use Rattle.site.proofs.judge_allele.Reads as judge-allele-reads
+
+-- src/lib.rt:137:15
+judge-allele-requires : tie.Need-judge-allele-requires
+judge-allele-requires c κs = search needs
+
+-- src/lib.rt:137:5
+number-of-requires : tie.Need-number-of-requires
+number-of-requires c κs = search needs
+
+-- src/lib.rt:134:1
+returns : tie.Need-returns
+unfolding alleleNumber
+returns c =
+    c .number-of .ensures ∙ rw (c .before .judge-allele .ensures .0)
+
+pub judge-allele-spec : {M : Type 1} → statement M
+judge-allele-spec = tie.close (tie.spec judge-allele-requires number-of-requires returns)

@@ -1,0 +1,138 @@
+// The rules of a value on elements that a builder is given, as integers, float bits or text: the number of what is wrong, or 0.
+// Rests on vectors and site for the rules.
+ghost use mathlib.Core.Path.{_≡_};
+ghost use mathlib.Core.Bool.{false};
+ghost use mathlib.Core.List.{map};
+ghost use mir.Syntax.{w32};
+ghost use mir.Val.{ofZ};
+ghost use Rattle.words.specs.Lists.{among};
+ghost use Rattle.vectors.specs.Vectors.{vector};
+ghost use Rattle.given.specs.Given.{numberOf, elementsNumber, filtersNumber, alleleNumber};
+use vectors::Judged;
+use vectors::Turn;
+
+// The number of what is wrong.
+fn number_of(j: Judged) -> u32
+    ensures { λ r. ⌜ r ≡ numberOf j ⌝ }
+{
+    match j {
+        Judged::Sound => 0,
+        Judged::Refused(r) => r.number,
+    }
+}
+
+// The integers of one vector.
+fn integers_in(part: &[i32], most: u32) -> Judged
+    ensures { λ r. ⌜ r ≡ vector most 3 0 0 false (map (ofZ w32) (now (part .entry))) ⌝ }
+{
+    let mut ended = false;
+    let mut i = 0;
+    while i < part.len() {
+        let t = vectors::judge_one(3, most, ended, words::bits(part[i]));
+        let Turn::On(e) = t else {
+            return vectors::stop_at(t, 0);
+        };
+        ended = e;
+        i += 1;
+    }
+    Judged::Sound
+}
+
+// The number for integers that are vectors of `len` each; a plain one above `most` gives 10.
+pub fn judge_integers(values: &[i32], len: usize, most: u32) -> u32
+    ensures { λ r. ⌜ r ≡ elementsNumber most 3 len (map (ofZ w32) (now (values .entry))) ⌝ }
+{
+    let mut left = words::over(values.len(), len);
+    let mut at = 0;
+    while 0 < left {
+        let stop = at + len;
+        let j = integers_in(&values[at..stop], most);
+        let Judged::Sound = j else {
+            return number_of(j);
+        };
+        at = stop;
+        left -= 1;
+    }
+    0
+}
+
+// The floats of one vector, given by their bits.
+fn floats_in(part: &[u32]) -> Judged
+    ensures { λ r. ⌜ r ≡ vector 0xFFFFFFFF 5 0 0 false (now (part .entry)) ⌝ }
+{
+    let mut ended = false;
+    let mut i = 0;
+    while i < part.len() {
+        let t = vectors::judge_one(5, 0xFFFFFFFF, ended, part[i]);
+        let Turn::On(e) = t else {
+            return vectors::stop_at(t, 0);
+        };
+        ended = e;
+        i += 1;
+    }
+    Judged::Sound
+}
+
+// The number for floats, given by their bits, that are vectors of `len` each.
+pub fn judge_floats(bits: &[u32], len: usize) -> u32
+    ensures { λ r. ⌜ r ≡ elementsNumber 0xFFFFFFFF 5 len (now (bits .entry)) ⌝ }
+{
+    let mut left = words::over(bits.len(), len);
+    let mut at = 0;
+    while 0 < left {
+        let stop = at + len;
+        let j = floats_in(&bits[at..stop]);
+        let Judged::Sound = j else {
+            return number_of(j);
+        };
+        at = stop;
+        left -= 1;
+    }
+    0
+}
+
+// The number for text that is vectors of `len` bytes each.
+pub fn judge_text(text: &[u8], len: usize) -> u32
+    ensures { λ r. ⌜ r ≡ elementsNumber 0xFFFFFFFF 7 len (now (text .entry)) ⌝ }
+{
+    number_of(vectors::judge(text, 7, len, 0xFFFFFFFF))
+}
+
+// Whether a number, given by its bits, is among integers.
+fn is_among(part: &[i32], x: u32) -> bool
+    ensures { λ r. ⌜ r ≡ among x (map (ofZ w32) (now (part .entry))) ⌝ }
+{
+    let mut i = 0;
+    while i < part.len() {
+        if words::bits(part[i]) == x {
+            return true;
+        }
+        i += 1;
+    }
+    false
+}
+
+// The number for the elements of FILTER, under the dictionary's size.
+pub fn judge_filters(values: &[i32], strings: u32) -> u32
+    ensures { λ r. ⌜ r ≡ filtersNumber strings (map (ofZ w32) (now (values .entry))) ⌝ }
+{
+    let mut i = 0;
+    while i < values.len() {
+        let x = words::bits(values[i]);
+        if words::is_outside(strings, x) {
+            return 8;
+        }
+        if is_among(&values[..i], x) {
+            return 11;
+        }
+        i += 1;
+    }
+    0
+}
+
+// The number for an allele's bytes.
+pub fn judge_allele(text: &[u8]) -> u32
+    ensures { λ r. ⌜ r ≡ alleleNumber (now (text .entry)) ⌝ }
+{
+    number_of(site::judge_allele(text))
+}
