@@ -1,5 +1,5 @@
 pub mod Choice
 pub mod Fields
-pub mod Fixed
+pub mod People
 pub mod Stretches
 pub mod Written

@@ -22,7 +22,7 @@ use Rattle.choose.specs.Choice.{ascending}
 use Rattle.choose.specs.Chosen.{chosenFields, keptFormats, chosenBlock, chosenRecord}
 use Rattle.choose.proofs.Choice.{length-ascending}
 use Rattle.choose.proofs.Fields.{size-inside}
-use Rattle.choose.proofs.Fixed.{Fits, fixed-fits, fits-fixed}
+use Rattle.fixed.proofs.Fits.{Fits, fixed-fits, fits-fixed}
 use Rattle.choose.proofs.Written.{length-chosenRecord, size-block}
 use Rattle.chosen.specs.Releases.{forPeople, releasedSite}
 use Rattle.chosen.proofs.Blocks.{SameGt, no-gt, formats-none, formats-chosenFields}

@@ -19,7 +19,7 @@ use Rattle.fetch.specs.Fetch.{paired}
 use Rattle.fetch.specs.declared.Found.the-variants.{Field}
 use Rattle.fetch.proofs.FormatFields.{formats-field}
 use Rattle.fetch.proofs.There.{accepted}
-use Rattle.choose.proofs.Fixed.{fixed-fits}
+use Rattle.fixed.proofs.Fits.{fixed-fits}
 use Rattle.chosen.proofs.Sites.{people-given}
 
 -- a FORMAT field at the front of a list that is there, and what holds of the rest

@@ -16,7 +16,7 @@ use Rattle.fixed.specs.Layout.{indivAt, chromAt, posAt, rlenAt, countsAt, peopl
 use Rattle.fixed.specs.declared.Facts.{Facts}
 use Rattle.fixed.specs.declared.Site.{Site}
 use Rattle.choose.specs.Chosen.{keptFormats, chosenBlock, chosenSite, chosenRecord}
-use Rattle.choose.proofs.Fixed.{Fits}
+use Rattle.fixed.proofs.Fits.{Fits}
 use Rattle.choose.proofs.Written.{length-chosenSite, length-chosenRecord}
 use Rattle.chosen.specs.Releases.{forPeople, releasedSite}
 use Rattle.chosen.proofs.Sets.{drop-sets}

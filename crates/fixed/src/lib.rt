@@ -47,17 +47,17 @@ pub const ID: usize = 32;
 // The places of l_indiv and of the fixed fields, of four bytes each.
 pub const INDIV: usize = 4;
 
-const CHROM: usize = 8;
+pub const CHROM: usize = 8;
 
-const POS: usize = 12;
+pub const POS: usize = 12;
 
-const RLEN: usize = 16;
+pub const RLEN: usize = 16;
 
-const COUNTS: usize = 20;
+pub const COUNTS: usize = 20;
 
 pub const PEOPLE: usize = 24;
 
-const QUAL: usize = 28;
+pub const QUAL: usize = 28;
 
 // The four bytes at a place as a number.
 fn field_at(s: &[u8], at: usize) -> u32
@@ -117,7 +117,7 @@ fn blocks_refusal(b: Blocks) -> Refusal
 }
 
 // Whether POS is below −1 or above 2147483646.
-fn pos_wrong(bits: u32) -> bool
+pub fn pos_wrong(bits: u32) -> bool
     ensures { λ r. ⌜ r ≡ posWrong bits ⌝ }
 {
     if bits <= 2147483646 {
@@ -140,7 +140,7 @@ fn people_wrong(given: u32, formats: u32, people: u32) -> bool
 }
 
 // Whether QUAL is an end of vector or reserved.
-fn qual_wrong(bits: u32) -> bool
+pub fn qual_wrong(bits: u32) -> bool
     ensures { λ r. ⌜ r ≡ qualWrong bits ⌝ }
 {
     if bits < 0x7F800002 {

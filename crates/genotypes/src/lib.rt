@@ -79,13 +79,12 @@ fn gt_after(key: u32, gt: u32, field: Gt, known: Gt) -> Gt
 }
 
 // Whether a key is among the earlier ones, looked at from the front of the block.
-fn is_repeated(keys: &[u32; 256], count: usize, key: u32) -> bool
-    requires { ⌜ (count ≤ 256) × (count ≤ length (now keys)) ⌝ }
-    ensures { λ r. ⌜ r ≡ among key (take count (now (keys .entry))) ⌝ }
+pub fn is_repeated(earlier: &[u32], key: u32) -> bool
+    ensures { λ r. ⌜ r ≡ among key (now (earlier .entry)) ⌝ }
 {
     let mut i = 0;
-    while i < count {
-        if keys[i] == key {
+    while i < earlier.len() {
+        if earlier[i] == key {
             return true;
         }
         i += 1;
@@ -114,7 +113,7 @@ pub fn genotype_block(block: &[u8], from: usize, facts: Facts, alleles: u32, cou
         let Integer::One { bits, next } = k else {
             return key_refused(k);
         };
-        if is_repeated(&keys, seen, bits) {
+        if is_repeated(&keys[..seen], bits) {
             return Genotypes::Refused(Refusal {
                 number: 11,
                 place: at + 1,

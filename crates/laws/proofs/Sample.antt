@@ -1,13 +1,16 @@
 -- The sample record is computed. Rests on specs/Sample.
-use mathlib.Core.Path.{refl}
+use mathlib.Core.Path.{_≡_, refl}
+use Prim.Native.Nat.{_≤_}
+use native.Mathlib.Omega.{arith}
+use lib.ListN.{length}
 use Rattle.words.specs.Lists.{among}
-use Rattle.words.specs.Words.{le, number, outside}
+use Rattle.words.specs.Words.{le, number, bytes, outside}
 use Rattle.types.specs.Rows.{rowOf, widthOf}
-use Rattle.types.specs.Elements.{marked, kind, widened, shown}
+use Rattle.types.specs.Elements.{marked, kind, widened, shown, narrowest}
 use Rattle.values.specs.Values.{integer, trueLength, keyed, described, present}
 use Rattle.vectors.specs.Vectors.{numbers, shownNumbers, vector, vectors, judged}
 use Rattle.vectors.specs.Sound.{highest, codeMost, sound}
-use Rattle.fixed.specs.Layout.{field, posWrong, peopleWrong, qualWrong}
+use Rattle.fixed.specs.Layout.{field, posWrong, peopleWrong, qualWrong, mostBytes}
 use Rattle.fixed.specs.Fixed.{blocks, fixed}
 use Rattle.site.specs.Steps.{times}
 use Rattle.site.specs.Alleles.{alleleBytes, allele}
@@ -21,8 +24,54 @@ use Rattle.tally.specs.Tally.{callsOf, tallied}
 use Rattle.decimal.specs.Decimal.{written, decimal}
 use Rattle.frames.specs.Text.{spaced}
 use Rattle.frames.specs.Frames.{callNumbers, acceptedLine, recordLine}
-use Rattle.laws.specs.Sample.{Sample, sample}
+use Rattle.encode.specs.Encode.{integerBytes, descriptorBytes, widest, markedAs, narrowed, elementsBytes, valueBytes}
+use Rattle.given.specs.Given.{vectorsGiven, elementsNumber, filtersNumber, alleleNumber}
+use Rattle.build.specs.Values.{givenBytes, pairBytes, givenNumber}
+use Rattle.build.specs.Turns.{fieldsNumber, frontBytes, keyNumber}
+use Rattle.built.specs.Records.{joined, siteBytes, genotypeBytes, filledFront, recordBytes, Keeps}
+use Rattle.built.proofs.Builds.{keeps-tight}
+use Rattle.laws.specs.Sample.{Sample, facts, sample, sampleShown}
+
+-- what it shows keeps the rules, and is written as its bytes
+sample-bytes : recordBytes (facts .people) sampleShown ≡ sample
+unfolding sample bytes rowOf widthOf kind marked narrowest integerBytes descriptorBytes widest markedAs narrowed elementsBytes valueBytes givenBytes pairBytes frontBytes joined siteBytes genotypeBytes filledFront recordBytes
+sample-bytes = refl
+
+sample-keeps : Keeps facts sampleShown
+unfolding sample among outside kind marked vector alleleBytes filters highest codeMost roleOf posWrong qualWrong vectorsGiven elementsNumber filtersNumber alleleNumber givenNumber fieldsNumber keyNumber
+sample-keeps =
+    record {
+      bits = (omega arith, omega arith, omega arith, omega arith);
+      fields = refl;
+      id-fit = tt;
+      id = refl;
+      some = omega arith;
+      alleles-most = omega arith;
+      alleles = (record { fit = (omega arith, tt); some = refl; rules = refl }, (record { fit = (omega arith, tt); some = refl; rules = refl }, tt));
+      filters-fit = (omega arith, tt);
+      filters = refl;
+      infos-most = omega arith;
+      infos = (record { fit = (omega arith, tt); key = omega arith; inside = refl; rules = refl }, tt);
+      formats-most = omega arith;
+      people = λ _. omega arith;
+      formats = (
+        record {
+          fit = (omega arith, (omega arith, (omega arith, (omega arith, tt))));
+          key = omega arith;
+          inside = refl;
+          once = refl;
+          whole = λ _. refl;
+          count = refl;
+          rules = refl;
+        },
+        tt,
+      );
+      most = rw sample-bytes short;
+    }
+  where
+    short : length sample ≤ mostBytes
+    short = omega arith
 
 pub sample-read : Sample
 unfolding sample among le number outside rowOf widthOf marked kind widened shown integer trueLength keyed described present numbers shownNumbers vector vectors judged highest codeMost sound field posWrong peopleWrong qualWrong blocks fixed times alleleBytes allele filters filtered filter info site roleOf gtNow formats siteOf genotypesOf reading elementsOf pairsShown fieldsShown allelesThen nothing shownOf slots alleleOf alleles people called without howMany counters tally peopleOf counted callsOf tallied written decimal spaced callNumbers acceptedLine recordLine
-sample-read = record { read = refl; shows = refl; tally = refl; line = refl }
+sample-read = record { read = refl; shows = refl; built = sample-bytes; tight = rw sample-bytes at (keeps-tight facts sampleShown sample-keeps); tally = refl; line = refl }

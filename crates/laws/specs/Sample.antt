@@ -13,6 +13,8 @@ use Rattle.record.specs.declared.Reading.the-variants.{Accepted}
 use Rattle.tally.specs.Tally.{tallied}
 use Rattle.tally.specs.declared.Counting.the-variants.{Counted}
 use Rattle.frames.specs.Frames.{recordLine}
+use Rattle.built.specs.Records.{recordBytes}
+use Rattle.built.specs.Builds.{Tight}
 
 -- four strings, one contig, two people, GT at offset 3
 abbrev pub facts : Facts
@@ -39,22 +41,28 @@ sampleSite =
       people = 2;
     }
 
+-- no ID, alleles G and A, the filter at offset 0, INFO 2 is 14, and GT is 02 03 and 04 with an end of vector
+abbrev pub sampleShown : Shown
+sampleShown =
+    record {
+      chrom = 0;
+      pos = 0x3821;
+      rlen = 1;
+      qual = 0x41E80000;
+      id = [];
+      alleles = (0x47 ∷ []) ∷ (0x41 ∷ []) ∷ [];
+      filters = 0 ∷ [];
+      infos = record { key = 2; value = record { kind = integers; elements = 14 ∷ [] } } ∷ [];
+      formats = record { key = 3; len = 2; value = record { kind = integers; elements = 2 ∷ 3 ∷ 4 ∷ 0x80000001 ∷ [] } } ∷ [];
+    }
+
 pub record Sample : Type 0 where
   -- accepted: 50 bytes, two alleles, one INFO pair, one FORMAT field, two people; GT is of type 1, two slots a person, from byte 46 on
   pub read : reading facts sample ≡ Accepted sampleSite (gtAt 1 2 46)
-  -- no ID, alleles G and A, the filter at offset 0, INFO 2 is 14, and GT is 02 03 and 04 with an end of vector
-  pub shows : shownOf sampleSite sample
-      ≡ record {
-        chrom = 0;
-        pos = 0x3821;
-        rlen = 1;
-        qual = 0x41E80000;
-        id = [];
-        alleles = (0x47 ∷ []) ∷ (0x41 ∷ []) ∷ [];
-        filters = 0 ∷ [];
-        infos = record { key = 2; value = record { kind = integers; elements = 14 ∷ [] } } ∷ [];
-        formats = record { key = 3; len = 2; value = record { kind = integers; elements = 2 ∷ 3 ∷ 4 ∷ 0x80000001 ∷ [] } } ∷ [];
-      }
+  pub shows : shownOf sampleSite sample ≡ sampleShown
+  -- built from what it shows it is the same bytes, and so it is tight
+  pub built : recordBytes (facts .people) sampleShown ≡ sample
+  pub tight : Tight facts sample
   -- tallied: nobody without a genotype, no missing allele, two calls of allele 0 and one of allele 1; the padding is no call
   pub tally : tallied facts sample ≡ record { answer = Counted sampleSite; calls = record { without = 0; counts = 0 ∷ 2 ∷ 1 ∷ replicate 62 0 } }
   -- and so the line program says `ok 50 2 1 1 2 0 0 2 1`

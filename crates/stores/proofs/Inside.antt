@@ -6,6 +6,8 @@ use native.Mathlib.Omega.{arith}
 use native.Mathlib.Nat.{zero-add}
 use lib.ListN.{length, set, drop, length-set}
 use lib.Seq.{sets, sets-eq, length-sets, set-append-left}
+use Rattle.stores.specs.Stores.{filled}
+use Rattle.stores.proofs.Room.{filled-room}
 
 -- what is stored at the start, and then the rest
 pub sets-start : (buf xs : List ℕ) → length xs ≤ length buf → sets buf 0 xs ≡ xs ++ drop (length xs) buf
@@ -23,3 +25,7 @@ pub sets-inside : (buf xs : List ℕ) (i : ℕ) (vs : List ℕ) → length xs �
 sets-inside buf xs i vs h r =
     let e = sets-start buf (sets xs i vs) (rw length-sets h) in
     ap (λ (b : List ℕ). sets b i vs) (sets-start buf xs h) ∙ sets-append-left xs (drop (length xs) buf) i vs r ∙ sym (rw length-sets at e)
+
+pub filled-inside : (buf xs : List ℕ) (i : ℕ) (vs : List ℕ) → length xs ≤ length buf → i + length vs ≤ length xs
+    → filled (sets buf 0 xs) i vs ≡ sets buf 0 (sets xs i vs)
+filled-inside buf xs i vs h r = filled-room (sets buf 0 xs) i vs (rw length-sets (omega arith)) ∙ sets-inside buf xs i vs h r

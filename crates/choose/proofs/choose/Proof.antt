@@ -8,7 +8,7 @@ use borrow.Author.Tests.{lt-ltb, le-ltb}
 use Rattle.choose.specs.Chosen.{chosenBlock, chosenRecord}
 use Rattle.choose.specs.Choose.{choosing, afterChoosing}
 use Rattle.choose.proofs.Choice.{length-ascending}
-use Rattle.choose.proofs.Fixed.{people-bound}
+use Rattle.choose.proofs.People.{people-bound}
 use Rattle.choose.proofs.Written.{length-chosenRecord, size-block}
 use borrow.Author.Needs.{needs}
 use Rattle.choose.proofs.choose.Statement.{statement}

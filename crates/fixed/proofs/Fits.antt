@@ -1,8 +1,8 @@
--- The front of a record as facts about its fields, both ways. Rests on fixed's definitions and on what fetch says of reading.
+-- The front of a record as facts about its fields, both ways. Rests on specs/Fixed and the layout.
 use mathlib.Core.Path.{_≡_, refl, ap}
 use mathlib.Core.List.{List}
 use mathlib.Core.Bool.{Bool, true, false}
-use Prim.Native.Nat.{ℕ, _+_, _/_, _%_, _<_, _≤_}
+use Prim.Native.Nat.{ℕ, _+_, _/_, _%_, _≤_}
 use native.Mathlib.Omega.{arith}
 use lib.Dec.{ltb}
 use lib.ListN.{length}
@@ -10,18 +10,14 @@ use borrow.Author.Tests.{ltb-false, le-ltb}
 use Rattle.words.specs.Pick.{pick}
 use Rattle.words.specs.Words.{outside}
 use Rattle.values.specs.declared.Refusal.{Refusal}
 use Rattle.fixed.specs.Layout.{indivAt, chromAt, posAt, rlenAt, countsAt, peopleAt, qualAt, idAt, mostBytes, field, posWrong, rlenWrong, countsWrong, peopleWrong, qualWrong}
 use Rattle.fixed.specs.Fixed.{blocks, fields, fixed}
 use Rattle.fixed.specs.declared.Facts.{Facts}
 use Rattle.fixed.specs.declared.Site.{Site}
 use Rattle.fixed.specs.declared.Blocks.{Blocks}
 use Rattle.fixed.specs.declared.Blocks.the-variants.{Lent, Refused as NoBlocks}
 use Rattle.fixed.specs.declared.Fixed.{Fixed}
 use Rattle.fixed.specs.declared.Fixed.the-variants.{Site as Front, Refused as NoSite}
-use Rattle.genotypes.specs.declared.Gt.{Gt}
-use Rattle.record.specs.Reading.{reading}
-use Rattle.record.specs.declared.Reading.the-variants.{Accepted}
-use Rattle.fetch.proofs.There.{accepted}
 
 -- a list begins with a record's front whose site is t: where it lies, what its fields say, and that each keeps its rule
 pub record Fits (f : Facts) (s : List ℕ) (t : Site) : Type 0 where
@@ -163,7 +159,3 @@ fits-fixed f s t x =
       x .peopleRight,
       x .qualRight,
     )
-
--- an accepted record has fewer than 16,777,216 people
-pub people-bound : (f : Facts) (s : List ℕ) (t : Site) (g : Gt) → reading f s ≡ Accepted t g → t .people < 16777216
-people-bound f s t g h = let e = fixed-fits f s t (accepted f s t g h .front) .people in omega arith

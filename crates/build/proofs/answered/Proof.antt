@@ -1,0 +1,22 @@
+-- `build::answered` meets its contract.
+use borrow.Author.Tests.{eq-eqb, ne-eqb}
+use Rattle.build.specs.Order.{turned}
+use Rattle.build.proofs.answered.Statement.{statement}
+use Rattle.build.proofs.answered.Tie as tie
+use Rattle.build.proofs.answered.Reads as reads
+use Rattle.build.proofs.answered.Lts as lts
+
+-- src/lib.rt:149:9
+-- fill: eaadfe61
+returns : tie.Need-returns
+unfolding turned
+returns c = simp (eq-eqb _ _ (c .if1 .taken))
+
+-- src/lib.rt:145:1
+-- fill: 286c95e6
+returns-2 : tie.Need-returns-2
+unfolding turned
+returns-2 c = simp (ne-eqb _ _ (c .if1 .left))
+
+pub answered-spec : {M : Type 1} → statement M
+answered-spec = tie.close (tie.spec returns returns-2)

@@ -1,0 +1,70 @@
+-- `build::end` meets its contract.
+use mathlib.Core.Path.{_∙_, sym}
+use borrow.Author.Tests.{eq-eqb, ne-eqb}
+use Rattle.build.specs.Turns.{built, afterEnd}
+use Rattle.build.proofs.Numbers.{end-room, turned-refused}
+use borrow.Author.Needs.{needs}
+use Rattle.build.proofs.end.Statement.{statement}
+use Rattle.build.proofs.end.Tie as tie
+use Rattle.build.proofs.end.Reads as reads
+use Rattle.build.proofs.end.Lts as lts
+use Rattle.build.proofs.answered.Reads as answered-reads
+use Rattle.build.proofs.end_number.Reads as end-number-reads
+use Rattle.build.proofs.fill_in.Reads as fill-in-reads
+use Rattle.build.proofs.moved.Reads as moved-reads
+
+-- src/lib.rt:338:9
+end-number-requires : tie.Need-end-number-requires
+end-number-requires c κs = search needs
+
+-- src/lib.rt:340:9
+fill-in-requires : tie.Need-fill-in-requires
+fill-in-requires c κs =
+    end-room _ _ (sym (c .before .before .end-number .ensures) ∙ c .before .if1 .taken)
+
+-- src/lib.rt:342:13
+moved-requires : tie.Need-moved-requires
+moved-requires c κs = search needs
+
+-- src/lib.rt:350:9
+answered-requires : tie.Need-answered-requires
+answered-requires c κs = search needs
+
+-- src/lib.rt:350:9
+same-length : tie.Need-same-length
+same-length c = search needs
+
+-- src/lib.rt:350:9
+returns : tie.Need-returns
+unfolding built afterEnd
+returns c =
+    let number = c .before .before .before .before .before .before .before .end-number .ensures in (
+      c .answered .ensures ∙ rw (c .before .moved .ensures, number),
+      rw (← number, eq-eqb _ _ (c .before .before .before .before .before .before .if1 .taken)) (c .before .before .before .before .fill-in .ensures),
+    )
+
+-- src/lib.rt:352:5
+answered-requires-2 : tie.Need-answered-requires-2
+answered-requires-2 c κs = search needs
+
+-- src/lib.rt:333:1
+returns-2 : tie.Need-returns-2
+unfolding built afterEnd
+returns-2 c =
+    let number = c .before .before .end-number .ensures in (
+      c .answered2 .ensures ∙ rw (← number) (turned-refused _ _ _ _ (c .before .if1 .left)),
+      rw (← number, ne-eqb _ _ (c .before .if1 .left)),
+    )
+
+pub end-spec : {M : Type 1} → statement M
+end-spec =
+    tie.close
+    (tie.spec
+    end-number-requires
+    fill-in-requires
+    moved-requires
+    answered-requires
+    same-length
+    returns
+    answered-requires-2
+    returns-2)

@@ -1,0 +1,432 @@
+// Building a record, turn by turn: begin, ID, one or more alleles, FILTER, INFO fields, FORMAT fields, end, over a lent buffer and a state
+// that goes in by value and comes back by value. Rests on encode for what is written and on given for the rules of values.
+ghost use mathlib.Core.Path.{_≡_};
+ghost use Prim.Native.Nat.{_+_, _-_, _*_, _%_, _^_, _<_, _≤_};
+ghost use lib.ListN.{length};
+ghost use lib.Seq.{sets};
+ghost use mir.Syntax.{w32};
+ghost use mir.Val.{ofZ};
+ghost use Rattle.fixed.specs.Layout.{idAt, peopleAt};
+ghost use Rattle.build.specs.Order.{rank, firstOf, order, countNumber, roomNumber, reachNumber, turned};
+ghost use Rattle.build.specs.Turns.{peopleNumber, repeatNumber, gtNumber, listNumber, freshState, begunState, fieldsNumber, beginNumber, frontBytes, begun, afterBegin, keyNumber, infoKey, formatCount, formatKey, formatShape, endNumber, filledIn, movedTo, built, afterEnd};
+use fixed::Facts;
+use values::Refusal;
+
+// The last turn that was taken.
+pub enum Stage {
+    Fresh,
+    Begun,
+    Named,
+    Alleles,
+    Filtered,
+    Infos,
+    Formats,
+    Ended,
+}
+
+// A build as far as it is: the header's facts, the bytes written, where the genotype block begins, the counts, and the FORMAT keys.
+pub struct Builder {
+    pub facts: Facts,
+    pub at: u32,
+    pub border: u32,
+    pub alleles: u16,
+    pub infos: u16,
+    pub formats: u8,
+    pub stage: Stage,
+    pub keys: [u32; 256],
+}
+
+// Whether a turn was taken; or its refusal.
+pub enum Answer {
+    Taken,
+    Refused(Refusal),
+}
+
+// A turn's answer, and the state after it: that before it where it was refused.
+pub struct Turned {
+    pub state: Builder,
+    pub answer: Answer,
+}
+
+// How far a build is.
+fn rank_of(stage: Stage) -> u8
+    ensures { λ r. ⌜ r ≡ rank stage ⌝ }
+{
+    match stage {
+        Stage::Fresh => 0,
+        Stage::Begun => 1,
+        Stage::Named => 2,
+        Stage::Alleles => 3,
+        Stage::Filtered => 4,
+        Stage::Infos => 5,
+        Stage::Formats => 6,
+        Stage::Ended => 7,
+    }
+}
+
+// A state before the first turn.
+pub fn fresh() -> Builder
+    ensures { λ r. ⌜ r ≡ freshState ⌝ }
+{
+    Builder {
+        facts: Facts {
+            strings: 0,
+            contigs: 0,
+            people: 0,
+            gt: 0,
+        },
+        at: 0,
+        border: 0,
+        alleles: 0,
+        infos: 0,
+        formats: 0,
+        stage: Stage::Fresh,
+        keys: [0u32; 256],
+    }
+}
+
+// The first of two numbers of refusals that is not 0.
+fn first_of(a: u32, b: u32) -> u32
+    ensures { λ r. ⌜ r ≡ firstOf a b ⌝ }
+{
+    if a == 0 {
+        return b;
+    }
+    a
+}
+
+// 12 for a turn that may come only after a turn from one to another.
+fn order_number(stage: Stage, low: u8, high: u8) -> u32
+    ensures { λ r. ⌜ r ≡ order low high stage ⌝ }
+{
+    let rank = rank_of(stage);
+    if low <= rank {
+        if rank <= high {
+            return 0;
+        }
+        return 12;
+    }
+    12
+}
+
+// 5 for one more than the most of a count.
+fn count_number(count: u32, most: u32) -> u32
+    ensures { λ r. ⌜ r ≡ countNumber count most ⌝ }
+{
+    if count < most {
+        return 0;
+    }
+    5
+}
+
+// 8 for a key outside the dictionary.
+fn key_number(strings: u32, key: u32) -> u32
+    ensures { λ r. ⌜ r ≡ keyNumber strings key ⌝ }
+{
+    if words::is_outside(strings, key) {
+        return 8;
+    }
+    0
+}
+
+// 2 for a record over the most bytes, then 13 for a buffer too short.
+fn room_number(at: u32, size: usize, room: usize) -> u32
+    ensures { λ r. ⌜ r ≡ roomNumber at size room ⌝ }
+{
+    if 16777216 < size {
+        return 2;
+    }
+    let stop = at as usize + size;
+    if 16777216 < stop {
+        return 2;
+    }
+    if room < stop {
+        return 13;
+    }
+    0
+}
+
+// A turn's answer: taken with number 0, else refused with the state as it was.
+fn answered(state: Builder, number: u32, next: Builder) -> Turned
+    ensures { λ r. ⌜ r ≡ turned state number next ⌝ }
+{
+    if number == 0 {
+        return Turned {
+            state: next,
+            answer: Answer::Taken,
+        };
+    }
+    Turned {
+        state,
+        answer: Answer::Refused(Refusal { number, place: 0 }),
+    }
+}
+
+// 5 for a fixed field that breaks its rule, or more people than a record can hold.
+fn fields_number(facts: Facts, chrom: u32, pos: u32, rlen: u32, qual: u32) -> u32
+    ensures { λ r. ⌜ r ≡ fieldsNumber facts chrom pos rlen qual ⌝ }
+{
+    if words::is_outside(facts.contigs, chrom) {
+        return 5;
+    }
+    if fixed::pos_wrong(pos) {
+        return 5;
+    }
+    if 0x80000000 <= rlen {
+        return 5;
+    }
+    if fixed::qual_wrong(qual) {
+        return 5;
+    }
+    if 16777215 < facts.people {
+        return 5;
+    }
+    0
+}
+
+// 13 for a buffer that does not reach a place.
+fn reach_number(room: usize, stop: usize) -> u32
+    ensures { λ r. ⌜ r ≡ reachNumber room stop ⌝ }
+{
+    if room < stop {
+        return 13;
+    }
+    0
+}
+
+// Stores the first bytes, with the block lengths and the counts 0.
+fn put_front(buf: &mut [u8], chrom: u32, pos: u32, rlen: u32, qual: u32)
+    requires { ⌜ idAt ≤ length (now buf) ⌝ }
+    ensures { λ _. ⌜ now (buf .exit) ≡ sets (now (buf .entry)) 0 (frontBytes chrom pos rlen qual) ⌝ }
+{
+    let zeros = [0u8; fixed::ID];
+    stores::put(buf, 0, &zeros);
+    stores::put_number(buf, fixed::CHROM, 4, chrom);
+    stores::put_number(buf, fixed::POS, 4, pos);
+    stores::put_number(buf, fixed::RLEN, 4, rlen);
+    stores::put_number(buf, fixed::QUAL, 4, qual);
+}
+
+// The state after begin.
+fn begun_state(facts: Facts) -> Builder
+    ensures { λ r. ⌜ r ≡ begunState facts ⌝ }
+{
+    Builder {
+        facts,
+        at: fixed::ID as u32,
+        border: fixed::ID as u32,
+        alleles: 0,
+        infos: 0,
+        formats: 0,
+        stage: Stage::Begun,
+        keys: [0u32; 256],
+    }
+}
+
+// What is wrong with begin.
+fn begin_number(
+    stage: Stage,
+    room: usize,
+    facts: Facts,
+    chrom: u32,
+    pos: u32,
+    rlen: u32,
+    qual: u32,
+) -> u32
+    ensures { λ r. ⌜ r ≡ beginNumber stage room facts chrom pos rlen qual ⌝ }
+{
+    let rules = fields_number(facts, chrom, pos, rlen, qual);
+    first_of(
+        order_number(stage, 0, 0),
+        first_of(rules, reach_number(room, fixed::ID)),
+    )
+}
+
+// Begin: CHROM, POS and rlen as numbers, QUAL as float bits. Taken only in a fresh state.
+pub fn begin(
+    state: Builder,
+    buf: &mut [u8],
+    facts: Facts,
+    chrom: i32,
+    pos: i32,
+    rlen: i32,
+    qual: u32,
+) -> Turned
+    ensures told { λ r. ⌜ r ≡ begun state (length (now (buf .entry))) facts (ofZ w32 chrom) (ofZ w32 pos) (ofZ w32 rlen) qual ⌝ }
+    ensures written { λ _. ⌜ now (buf .exit) ≡ afterBegin state (now (buf .entry)) facts (ofZ w32 chrom) (ofZ w32 pos) (ofZ w32 rlen) qual ⌝ }
+{
+    let c = words::bits(chrom);
+    let p = words::bits(pos);
+    let l = words::bits(rlen);
+    let stage = state.stage;
+    let number = begin_number(stage, buf.len(), facts, c, p, l, qual);
+    if number == 0 {
+        put_front(buf, c, p, l, qual);
+        return answered(state, number, begun_state(facts));
+    }
+    answered(state, number, state)
+}
+
+// What is left of a number after another is taken away; 0 where it is less.
+fn less(a: u32, b: u32) -> u32
+    ensures { λ r. ⌜ r ≡ a - b ⌝ }
+{
+    if a < b {
+        return 0;
+    }
+    a - b
+}
+
+// A number's low 32 bits.
+fn low(v: u64) -> u32
+    ensures { λ r. ⌜ r ≡ v % 4294967296 ⌝ }
+{
+    (v % 4294967296) as u32
+}
+
+// Fills in both block lengths and both count fields.
+fn fill_in(state: Builder, buf: &mut [u8])
+    requires { ⌜ peopleAt + 4 ≤ length (now buf) ⌝ }
+    ensures { λ _. ⌜ now (buf .exit) ≡ filledIn state (now (buf .entry)) ⌝ }
+{
+    let people = state.facts.people;
+    let shared = less(state.border, 8);
+    let indiv = less(state.at, state.border);
+    let counts = state.alleles as u32 * 65536 + state.infos as u32;
+    let members = low(state.formats as u64 * 16777216 + people as u64);
+    stores::put_number(buf, 0, 4, shared);
+    stores::put_number(buf, fixed::INDIV, 4, indiv);
+    stores::put_number(buf, fixed::COUNTS, 4, counts);
+    stores::put_number(buf, fixed::PEOPLE, 4, members);
+}
+
+// The state after a turn of a stage that leaves the FORMAT fields as they are: so many bytes, so many before the genotype block, alleles
+// and INFO fields.
+fn moved(state: Builder, stage: Stage, at: u32, border: u32, alleles: u16, infos: u16) -> Builder
+    ensures { λ r. ⌜ r ≡ movedTo state stage at border alleles infos ⌝ }
+{
+    let facts = state.facts;
+    let keys = state.keys;
+    Builder {
+        facts,
+        at,
+        border,
+        alleles,
+        infos,
+        formats: state.formats,
+        stage,
+        keys,
+    }
+}
+
+// What is wrong with end.
+fn end_number(stage: Stage, room: usize) -> u32
+    ensures { λ r. ⌜ r ≡ endNumber stage room ⌝ }
+{
+    first_of(
+        order_number(stage, 4, 6),
+        reach_number(room, fixed::PEOPLE + 4),
+    )
+}
+
+// End: fills in both block lengths and both count fields. Nothing is taken after it.
+pub fn end(state: Builder, buf: &mut [u8]) -> Turned
+    ensures told { λ r. ⌜ r ≡ built state (length (now (buf .entry))) ⌝ }
+    ensures written { λ _. ⌜ now (buf .exit) ≡ afterEnd state (now (buf .entry)) ⌝ }
+{
+    let stage = state.stage;
+    let number = end_number(stage, buf.len());
+    if number == 0 {
+        fill_in(state, buf);
+        let last = Stage::Ended;
+        let next = moved(
+            state,
+            last,
+            state.at,
+            state.border,
+            state.alleles,
+            state.infos,
+        );
+        return answered(state, number, next);
+    }
+    answered(state, number, state)
+}
+
+// What is wrong with an INFO turn before its value is looked at.
+fn info_key(stage: Stage, infos: u16, strings: u32, key: u32) -> u32
+    ensures { λ r. ⌜ r ≡ infoKey stage infos strings key ⌝ }
+{
+    let count = count_number(infos as u32, 65535);
+    first_of(
+        order_number(stage, 4, 5),
+        first_of(count, key_number(strings, key)),
+    )
+}
+
+// 5 for a FORMAT field without people.
+fn people_number(people: u32) -> u32
+    ensures { λ r. ⌜ r ≡ peopleNumber people ⌝ }
+{
+    if people == 0 {
+        return 5;
+    }
+    0
+}
+
+// What is wrong with a FORMAT turn in its order and count.
+fn format_count(stage: Stage, people: u32, formats: u8) -> u32
+    ensures { λ r. ⌜ r ≡ formatCount stage people formats ⌝ }
+{
+    let count = count_number(formats as u32, 255);
+    first_of(
+        order_number(stage, 4, 6),
+        first_of(people_number(people), count),
+    )
+}
+
+// 11 for a key that stood earlier.
+fn repeat_number(earlier: &[u32], key: u32) -> u32
+    ensures { λ r. ⌜ r ≡ repeatNumber (now (earlier .entry)) key ⌝ }
+{
+    if genotypes::is_repeated(earlier, key) {
+        return 11;
+    }
+    0
+}
+
+// What is wrong with a FORMAT turn's key.
+fn format_key(strings: u32, earlier: &[u32], key: u32) -> u32
+    ensures { λ r. ⌜ r ≡ formatKey strings (now (earlier .entry)) key ⌝ }
+{
+    first_of(key_number(strings, key), repeat_number(earlier, key))
+}
+
+// 6 for GT in something else than integers.
+fn gt_number(gt: u32, key: u32, whole: bool) -> u32
+    ensures { λ r. ⌜ r ≡ gtNumber gt key whole ⌝ }
+{
+    if key == gt {
+        if whole {
+            return 0;
+        }
+        return 6;
+    }
+    0
+}
+
+// 7 for a list that isn't people times length.
+fn list_number(people: u32, len: u32, count: usize) -> u32
+    ensures { λ r. ⌜ r ≡ listNumber people len count ⌝ }
+{
+    if people as usize * len as usize == count {
+        return 0;
+    }
+    7
+}
+
+// What is wrong with the kind and the length of a FORMAT turn's value.
+fn format_shape(gt: u32, key: u32, whole: bool, people: u32, len: u32, count: usize) -> u32
+    ensures { λ r. ⌜ r ≡ formatShape gt key whole people len count ⌝ }
+{
+    first_of(gt_number(gt, key, whole), list_number(people, len, count))
+}

@@ -1,0 +1,14 @@
+pub mod Blocks
+pub mod Builds
+pub mod Elements
+pub mod Front
+pub mod Kept
+pub mod Ordered
+pub mod ReadBack
+pub mod Segments
+pub mod Shows
+pub mod Stands
+pub mod Steps
+pub mod Values
+pub mod Widths
+pub mod Written

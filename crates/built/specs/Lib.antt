@@ -1,0 +1,4 @@
+pub mod Builds
+pub mod Records
+pub mod Runs
+pub mod Widths

@@ -1,0 +1,1 @@
+// What holds of building, as theorems over the definitions of turns and of reading: no code.
