@@ -1,7 +1,7 @@
 -- The first bytes, stored number by number, and the four fields that end fills in. Rests on specs/Turns and on stores.
-use mathlib.Core.Path.{_≡_, _∙_, refl, ap}
-use mathlib.Core.List.{List, [], _∷_}
-use Prim.Native.Nat.{ℕ, zero, suc, _+_, _-_, _*_, _/_, _%_, _^_, _≤_}
+use mathlib.Core.Path.{_≡_, _∙_, refl}
+use mathlib.Core.List.{List}
+use Prim.Native.Nat.{ℕ, _+_, _-_, _*_, _/_, _%_, _≤_}
 use native.Mathlib.Omega.{arith}
 use lib.Arith.{mod-mul}
 use lib.ListN.{length, replicate}

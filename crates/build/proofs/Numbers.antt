@@ -1,6 +1,5 @@
 -- Where a number is 0 nothing is wrong: what each number then says. Rests on specs/Order.
-use mathlib.Core.Path.{_≡_, refl}
-use mathlib.Core.List.{List}
+use mathlib.Core.Path.{_≡_, refl, sym, _∙_}
 use mathlib.Core.Bool.{Bool, true, false}
 use Prim.Native.Nat.{ℕ, _+_, _≤_}
 use native.Mathlib.Omega.{arith}
@@ -54,3 +53,11 @@ begin-room stage room f chrom pos rlen qual h = reach-zero room idAt (first-zero
 pub end-room : (stage : Stage) (room : ℕ) → endNumber stage room ≡ 0 → peopleAt + 4 ≤ room
 unfolding endNumber
 end-room stage room h = reach-zero room (peopleAt + 4) (first-zero _ _ h .1)
+
+-- the first of two numbers, each known by another name
+pub first-eq : (n a b c d : ℕ) → n ≡ firstOf a b → a ≡ c → b ≡ d → n ≡ firstOf c d
+first-eq n a b c d h p q = rw (← p, ← q) h
+
+-- where both the rules and the room are sound, the bytes fit
+pub append-room : (n rules at size room : ℕ) → n ≡ firstOf rules (roomNumber at size room) → n ≡ 0 → (at + size ≤ mostBytes) × (at + size ≤ room)
+append-room n rules at size room h z = room-zero at size room (first-zero rules (roomNumber at size room) (sym h ∙ z) .1)

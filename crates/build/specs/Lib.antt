@@ -1,3 +1,4 @@
 pub mod Turns
 pub mod Order
 pub mod Values
+pub mod Writing

@@ -1,14 +1,25 @@
 // Building a record, turn by turn: begin, ID, one or more alleles, FILTER, INFO fields, FORMAT fields, end, over a lent buffer and a state
 // that goes in by value and comes back by value. Rests on encode for what is written and on given for the rules of values.
+ghost use mathlib.Core.List.{map, _++_};
 ghost use mathlib.Core.Path.{_≡_};
 ghost use Prim.Native.Nat.{_+_, _-_, _*_, _%_, _^_, _<_, _≤_};
+ghost use lib.Dec.{eqb};
 ghost use lib.ListN.{length};
 ghost use lib.Seq.{sets};
 ghost use mir.Syntax.{w32};
 ghost use mir.Val.{ofZ};
-ghost use Rattle.fixed.specs.Layout.{idAt, peopleAt};
+ghost use Rattle.words.specs.Pick.{pick};
+ghost use Rattle.stores.specs.Stores.{filled};
+ghost use Rattle.fixed.specs.Layout.{mostBytes, idAt, peopleAt};
+ghost use Rattle.encode.specs.Encode.{descriptorBytes, valueBytes};
+ghost use Rattle.vectors.specs.Sound.{mostOf};
+ghost use Rattle.genotypes.specs.Formats.{roleOf};
+ghost use Rattle.record.specs.Shown.{integers, floats, text};
+ghost use Rattle.given.specs.Given.{alleleNumber, filtersNumber};
+ghost use Rattle.build.specs.Values.{any, givenBytes, givenNumber};
 ghost use Rattle.build.specs.Order.{rank, firstOf, order, countNumber, roomNumber, reachNumber, turned};
-ghost use Rattle.build.specs.Turns.{peopleNumber, repeatNumber, gtNumber, listNumber, freshState, begunState, fieldsNumber, beginNumber, frontBytes, begun, afterBegin, keyNumber, infoKey, formatCount, formatKey, formatShape, endNumber, filledIn, movedTo, built, afterEnd};
+ghost use Rattle.build.specs.Writing.{headBytes, written, writtenTo, formatFront};
+ghost use Rattle.build.specs.Turns.{inSite, inGenotypes, idGiven, afterId, alleleGiven, afterAllele, filterGiven, afterFilter, infoGiven, afterInfo, formatGiven, afterFormat, peopleNumber, repeatNumber, gtNumber, listNumber, freshState, begunState, fieldsNumber, beginNumber, frontBytes, begun, afterBegin, keyNumber, infoKey, formatCount, formatKey, formatShape, endNumber, filledIn, movedTo, built, afterEnd};
 use fixed::Facts;
 use values::Refusal;
 
@@ -46,6 +57,18 @@ pub enum Answer {
 pub struct Turned {
     pub state: Builder,
     pub answer: Answer,
+}
+
+// What stands before a value: nothing, or its key.
+enum Head {
+    Bare,
+    Key(u32),
+}
+
+// What became of bytes to be appended: the number of what is wrong, 0 where they were written, and how many they are.
+struct Written {
+    number: u32,
+    size: usize,
 }
 
 // How far a build is.
@@ -429,4 +452,378 @@ fn format_shape(gt: u32, key: u32, whole: bool, people: u32, len: u32, count: us
     ensures { λ r. ⌜ r ≡ formatShape gt key whole people len count ⌝ }
 {
     first_of(gt_number(gt, key, whole), list_number(people, len, count))
+}
+
+// The bytes of a value of so many elements, each so wide, with the length of each vector.
+fn value_size(len: usize, count: usize, width: usize) -> usize
+    requires { ⌜ count * width < 2 ^ 63 ⌝ }
+    ensures { λ r. ⌜ r ≡ length (descriptorBytes 0 len) + count * width ⌝ }
+    ensures { λ r. ⌜ r ≤ 6 + count * width ⌝ }
+{
+    encode::descriptor_size(len) + count * width
+}
+
+// Stores text as a value, with the length of each vector.
+fn put_text(buf: &mut [u8], at: usize, len: u32, part: &[u8])
+    requires { ⌜ at + length (givenBytes text len (now part)) ≤ length (now buf) ⌝ }
+    ensures { λ _. ⌜ now (buf .exit) ≡ sets (now (buf .entry)) at (givenBytes text len (now (part .entry))) ⌝ }
+{
+    encode::put_descriptor(buf, at, 7, len);
+    stores::put(buf, at + encode::descriptor_size(len as usize), part);
+}
+
+// Stores integers as a value, with the length of each vector and their type.
+fn put_integers(buf: &mut [u8], at: usize, len: u32, code: u8, values: &[i32])
+    requires { ⌜ at + length (valueBytes code len (map (ofZ w32) (now values))) ≤ length (now buf) ⌝ }
+    ensures { λ _. ⌜ now (buf .exit) ≡ sets (now (buf .entry)) at (valueBytes code len (map (ofZ w32) (now (values .entry)))) ⌝ }
+{
+    encode::put_descriptor(buf, at, code, len);
+    encode::put_integers(
+        buf,
+        at + encode::descriptor_size(len as usize),
+        code,
+        values,
+    );
+}
+
+// Stores floats, given by their bits, as a value, with the length of each vector.
+fn put_floats(buf: &mut [u8], at: usize, len: u32, bits: &[u32])
+    requires { ⌜ at + length (valueBytes 5 len (now bits)) ≤ length (now buf) ⌝ }
+    ensures { λ _. ⌜ now (buf .exit) ≡ sets (now (buf .entry)) at (valueBytes 5 len (now (bits .entry))) ⌝ }
+{
+    encode::put_descriptor(buf, at, 5, len);
+    encode::put_floats(buf, at + encode::descriptor_size(len as usize), bits);
+}
+
+// The bytes that stand before a value.
+fn head_size(head: Head) -> usize
+    ensures { λ r. ⌜ r ≡ length (headBytes head) ⌝ }
+    ensures { λ r. ⌜ r ≤ 5 ⌝ }
+{
+    let Head::Key(key) = head else {
+        return 0;
+    };
+    encode::integer_size(key as usize)
+}
+
+// Stores what stands before a value, where it has room.
+fn put_head(buf: &mut [u8], at: usize, head: Head)
+    ensures { λ _. ⌜ now (buf .exit) ≡ filled (now (buf .entry)) at (headBytes head) ⌝ }
+{
+    let Head::Key(key) = head else {
+        return;
+    };
+    encode::put_integer(buf, at, key);
+}
+
+// The rules' number, then the room's.
+fn append_number(rules: u32, at: u32, size: usize, room: usize) -> u32
+    ensures { λ r. ⌜ r ≡ firstOf rules (roomNumber at size room) ⌝ }
+{
+    first_of(rules, room_number(at, size, room))
+}
+
+// Appends text, unless the rules or the room are against it.
+fn append_text(buf: &mut [u8], at: u32, rules: u32, head: Head, len: usize, part: &[u8]) -> Written
+    requires { ⌜ (length (now part) ≤ mostBytes → len < 2 ^ 32) ⌝ }
+    ensures told { λ r. ⌜ r ≡ written at (length (now (buf .entry))) rules (headBytes head ++ givenBytes text len (now (part .entry))) ⌝ }
+    ensures kept { λ _. ⌜ now (buf .exit) ≡ writtenTo (now (buf .entry)) at rules (headBytes head ++ givenBytes text len (now (part .entry))) ⌝ }
+{
+    let first = head_size(head);
+    let size = first + value_size(len, part.len(), 1);
+    let number = append_number(rules, at, size, buf.len());
+    if number == 0 {
+        put_head(buf, at as usize, head);
+        put_text(buf, at as usize + first, len as u32, part);
+        return Written { number, size };
+    }
+    Written { number, size }
+}
+
+// Appends floats, given by their bits, unless the rules or the room are against it.
+fn append_floats(
+    buf: &mut [u8],
+    at: u32,
+    rules: u32,
+    head: Head,
+    len: usize,
+    bits: &[u32],
+) -> Written
+    requires { ⌜ (length (now bits) ≤ mostBytes → len < 2 ^ 32) ⌝ }
+    ensures told { λ r. ⌜ r ≡ written at (length (now (buf .entry))) rules (headBytes head ++ givenBytes floats len (now (bits .entry))) ⌝ }
+    ensures kept { λ _. ⌜ now (buf .exit) ≡ writtenTo (now (buf .entry)) at rules (headBytes head ++ givenBytes floats len (now (bits .entry))) ⌝ }
+{
+    let first = head_size(head);
+    let size = first + value_size(len, bits.len(), 4);
+    let number = append_number(rules, at, size, buf.len());
+    if number == 0 {
+        put_head(buf, at as usize, head);
+        put_floats(buf, at as usize + first, len as u32, bits);
+        return Written { number, size };
+    }
+    Written { number, size }
+}
+
+// Appends integers in the narrowest type for all, unless the rules or the room are against it.
+fn append_integers(
+    buf: &mut [u8],
+    at: u32,
+    rules: u32,
+    head: Head,
+    len: usize,
+    values: &[i32],
+) -> Written
+    requires { ⌜ (length (now values) ≤ mostBytes → len < 2 ^ 32) ⌝ }
+    ensures told { λ r. ⌜ r ≡ written at (length (now (buf .entry))) rules (headBytes head ++ givenBytes integers len (map (ofZ w32) (now (values .entry)))) ⌝ }
+    ensures kept { λ _. ⌜ now (buf .exit) ≡ writtenTo (now (buf .entry)) at rules (headBytes head ++ givenBytes integers len (map (ofZ w32) (now (values .entry)))) ⌝ }
+{
+    let code = encode::widest_type(values);
+    let row = types::row_of(code);
+    let first = head_size(head);
+    let size = first + value_size(len, values.len(), row.width as usize);
+    let number = append_number(rules, at, size, buf.len());
+    if number == 0 {
+        put_head(buf, at as usize, head);
+        put_integers(buf, at as usize + first, len as u32, code, values);
+        return Written { number, size };
+    }
+    Written { number, size }
+}
+
+// A site turn's answer, with so many alleles and INFO fields more.
+fn site_turn(state: Builder, done: Written, stage: Stage, alleles: u16, infos: u16) -> Turned
+    requires { ⌜ (done .number ≡ 0 → (state .at + done .size ≤ mostBytes) × (state .alleles + alleles < 65536) × (state .infos + infos < 65536)) ⌝ }
+    ensures { λ r. ⌜ r ≡ turned state (done .number) (inSite state stage (state .alleles + alleles) (state .infos + infos) (done .size)) ⌝ }
+{
+    let number = done.number;
+    if number == 0 {
+        let stop = state.at + done.size as u32;
+        let a = state.alleles + alleles;
+        let i = state.infos + infos;
+        return answered(state, number, moved(state, stage, stop, stop, a, i));
+    }
+    answered(state, number, state)
+}
+
+// The state after one more FORMAT field, of so many bytes.
+fn with_format(state: Builder, key: u32, size: usize) -> Builder
+    requires { ⌜ (state .at + size ≤ mostBytes) × (state .formats < 255) ⌝ }
+    ensures { λ r. ⌜ r ≡ inGenotypes state key size ⌝ }
+{
+    let facts = state.facts;
+    let formats = state.formats;
+    let mut keys = state.keys;
+    keys[formats as usize] = key;
+    Builder {
+        facts,
+        at: state.at + size as u32,
+        border: state.border,
+        alleles: state.alleles,
+        infos: state.infos,
+        formats: formats + 1,
+        stage: Stage::Formats,
+        keys,
+    }
+}
+
+// A FORMAT turn's answer.
+fn format_turn(state: Builder, done: Written, key: u32) -> Turned
+    requires { ⌜ (done .number ≡ 0 → (state .at + done .size ≤ mostBytes) × (state .formats < 255)) ⌝ }
+    ensures { λ r. ⌜ r ≡ turned state (done .number) (inGenotypes state key (done .size)) ⌝ }
+{
+    let number = done.number;
+    if number == 0 {
+        return answered(state, number, with_format(state, key, done.size));
+    }
+    answered(state, number, state)
+}
+
+// What is wrong with an ID.
+fn id_number(stage: Stage, part: &[u8]) -> u32
+    ensures { λ r. ⌜ r ≡ firstOf (order 1 1 stage) (givenNumber any text (length (now (part .entry))) (now (part .entry))) ⌝ }
+{
+    first_of(
+        order_number(stage, 1, 1),
+        given::judge_text(part, part.len()),
+    )
+}
+
+// ID: any text.
+pub fn id(state: Builder, buf: &mut [u8], part: &[u8]) -> Turned
+    ensures told { λ r. ⌜ r ≡ idGiven state (length (now (buf .entry))) (now (part .entry)) ⌝ }
+    ensures kept { λ _. ⌜ now (buf .exit) ≡ afterId state (now (buf .entry)) (now (part .entry)) ⌝ }
+{
+    let stage = state.stage;
+    let rules = id_number(stage, part);
+    let bare = Head::Bare;
+    let done = append_text(buf, state.at, rules, bare, part.len(), part);
+    let last = Stage::Named;
+    site_turn(state, done, last, 0, 0)
+}
+
+// 7 for an allele without bytes.
+fn empty_number(count: usize) -> u32
+    ensures { λ r. ⌜ r ≡ pick (eqb count 0) 7 0 ⌝ }
+{
+    if count == 0 {
+        return 7;
+    }
+    0
+}
+
+// What is wrong with an allele.
+fn allele_number(stage: Stage, alleles: u16, part: &[u8]) -> u32
+    ensures { λ r. ⌜ r ≡ firstOf (order 2 3 stage) (firstOf (countNumber alleles 65535) (firstOf (pick (eqb (length (now (part .entry))) 0) 7 0) (alleleNumber (now (part .entry))))) ⌝ }
+{
+    let text = first_of(empty_number(part.len()), given::judge_allele(part));
+    let count = count_number(alleles as u32, 65535);
+    first_of(order_number(stage, 2, 3), first_of(count, text))
+}
+
+// An allele: not empty, its bytes from 21 to 7E.
+pub fn allele(state: Builder, buf: &mut [u8], part: &[u8]) -> Turned
+    ensures told { λ r. ⌜ r ≡ alleleGiven state (length (now (buf .entry))) (now (part .entry)) ⌝ }
+    ensures kept { λ _. ⌜ now (buf .exit) ≡ afterAllele state (now (buf .entry)) (now (part .entry)) ⌝ }
+{
+    let stage = state.stage;
+    let rules = allele_number(stage, state.alleles, part);
+    let bare = Head::Bare;
+    let done = append_text(buf, state.at, rules, bare, part.len(), part);
+    let last = Stage::Alleles;
+    site_turn(state, done, last, 1, 0)
+}
+
+// What is wrong with FILTER.
+fn filter_number(stage: Stage, strings: u32, values: &[i32]) -> u32
+    ensures { λ r. ⌜ r ≡ firstOf (order 3 3 stage) (filtersNumber strings (map (ofZ w32) (now (values .entry)))) ⌝ }
+{
+    first_of(
+        order_number(stage, 3, 3),
+        given::judge_filters(values, strings),
+    )
+}
+
+// FILTER: offsets in the dictionary, none twice.
+pub fn filter(state: Builder, buf: &mut [u8], values: &[i32]) -> Turned
+    ensures told { λ r. ⌜ r ≡ filterGiven state (length (now (buf .entry))) (map (ofZ w32) (now (values .entry))) ⌝ }
+    ensures kept { λ _. ⌜ now (buf .exit) ≡ afterFilter state (now (buf .entry)) (map (ofZ w32) (now (values .entry))) ⌝ }
+{
+    let stage = state.stage;
+    let rules = filter_number(stage, state.facts.strings, values);
+    let bare = Head::Bare;
+    let done = append_integers(buf, state.at, rules, bare, values.len(), values);
+    let last = Stage::Filtered;
+    site_turn(state, done, last, 0, 0)
+}
+
+// INFO with integers.
+pub fn info_integers(state: Builder, buf: &mut [u8], key: i32, values: &[i32]) -> Turned
+    ensures told { λ r. ⌜ r ≡ infoGiven state (length (now (buf .entry))) (ofZ w32 key) integers (map (ofZ w32) (now (values .entry))) ⌝ }
+    ensures kept { λ _. ⌜ now (buf .exit) ≡ afterInfo state (now (buf .entry)) (ofZ w32 key) integers (map (ofZ w32) (now (values .entry))) ⌝ }
+{
+    let k = words::bits(key);
+    let stage = state.stage;
+    let sound = info_key(stage, state.infos, state.facts.strings, k);
+    let rules = first_of(
+        sound,
+        given::judge_integers(values, values.len(), 0xFFFFFFFF),
+    );
+    let head = Head::Key(k);
+    let done = append_integers(buf, state.at, rules, head, values.len(), values);
+    let last = Stage::Infos;
+    site_turn(state, done, last, 0, 1)
+}
+
+// INFO with floats, given by their bits.
+pub fn info_floats(state: Builder, buf: &mut [u8], key: i32, bits: &[u32]) -> Turned
+    ensures told { λ r. ⌜ r ≡ infoGiven state (length (now (buf .entry))) (ofZ w32 key) floats (now (bits .entry)) ⌝ }
+    ensures kept { λ _. ⌜ now (buf .exit) ≡ afterInfo state (now (buf .entry)) (ofZ w32 key) floats (now (bits .entry)) ⌝ }
+{
+    let k = words::bits(key);
+    let stage = state.stage;
+    let sound = info_key(stage, state.infos, state.facts.strings, k);
+    let rules = first_of(sound, given::judge_floats(bits, bits.len()));
+    let head = Head::Key(k);
+    let done = append_floats(buf, state.at, rules, head, bits.len(), bits);
+    let last = Stage::Infos;
+    site_turn(state, done, last, 0, 1)
+}
+
+// INFO with text.
+pub fn info_text(state: Builder, buf: &mut [u8], key: i32, part: &[u8]) -> Turned
+    ensures told { λ r. ⌜ r ≡ infoGiven state (length (now (buf .entry))) (ofZ w32 key) text (now (part .entry)) ⌝ }
+    ensures kept { λ _. ⌜ now (buf .exit) ≡ afterInfo state (now (buf .entry)) (ofZ w32 key) text (now (part .entry)) ⌝ }
+{
+    let k = words::bits(key);
+    let stage = state.stage;
+    let sound = info_key(stage, state.infos, state.facts.strings, k);
+    let rules = first_of(sound, given::judge_text(part, part.len()));
+    let head = Head::Key(k);
+    let done = append_text(buf, state.at, rules, head, part.len(), part);
+    let last = Stage::Infos;
+    site_turn(state, done, last, 0, 1)
+}
+
+// What is wrong with a FORMAT turn before its elements are looked at: given by its key, whether it has integers, and its lengths.
+fn format_number(state: Builder, key: u32, whole: bool, len: u32, count: usize) -> u32
+    ensures { λ r. ⌜ r ≡ formatFront state key whole len count ⌝ }
+{
+    let stage = state.stage;
+    let facts = state.facts;
+    let keys = state.keys;
+    let n = state.formats as usize;
+    let earlier = format_key(facts.strings, &keys[..n], key);
+    let shape = format_shape(facts.gt, key, whole, facts.people, len, count);
+    let turn = format_count(stage, facts.people, state.formats);
+    first_of(turn, first_of(earlier, shape))
+}
+
+// The most that an integer may be: GT's code of the last allele, else any.
+fn most_for(gt: u32, key: u32, alleles: u16) -> u32
+    ensures { λ r. ⌜ r ≡ mostOf (roleOf key gt) alleles 3 ⌝ }
+{
+    if key == gt {
+        return alleles as u32 * 2 + 1;
+    }
+    0xFFFFFFFF
+}
+
+// FORMAT with integers, so many for each person.
+pub fn format_integers(state: Builder, buf: &mut [u8], key: i32, len: u32, values: &[i32]) -> Turned
+    ensures told { λ r. ⌜ r ≡ formatGiven state (length (now (buf .entry))) (ofZ w32 key) integers len (map (ofZ w32) (now (values .entry))) ⌝ }
+    ensures kept { λ _. ⌜ now (buf .exit) ≡ afterFormat state (now (buf .entry)) (ofZ w32 key) integers len (map (ofZ w32) (now (values .entry))) ⌝ }
+{
+    let k = words::bits(key);
+    let front = format_number(state, k, true, len, values.len());
+    let most = most_for(state.facts.gt, k, state.alleles);
+    let rules = first_of(front, given::judge_integers(values, len as usize, most));
+    let head = Head::Key(k);
+    let done = append_integers(buf, state.at, rules, head, len as usize, values);
+    format_turn(state, done, k)
+}
+
+// FORMAT with floats, given by their bits, so many for each person.
+pub fn format_floats(state: Builder, buf: &mut [u8], key: i32, len: u32, bits: &[u32]) -> Turned
+    ensures told { λ r. ⌜ r ≡ formatGiven state (length (now (buf .entry))) (ofZ w32 key) floats len (now (bits .entry)) ⌝ }
+    ensures kept { λ _. ⌜ now (buf .exit) ≡ afterFormat state (now (buf .entry)) (ofZ w32 key) floats len (now (bits .entry)) ⌝ }
+{
+    let k = words::bits(key);
+    let front = format_number(state, k, false, len, bits.len());
+    let rules = first_of(front, given::judge_floats(bits, len as usize));
+    let head = Head::Key(k);
+    let done = append_floats(buf, state.at, rules, head, len as usize, bits);
+    format_turn(state, done, k)
+}
+
+// FORMAT with text, so many bytes for each person.
+pub fn format_text(state: Builder, buf: &mut [u8], key: i32, len: u32, part: &[u8]) -> Turned
+    ensures told { λ r. ⌜ r ≡ formatGiven state (length (now (buf .entry))) (ofZ w32 key) text len (now (part .entry)) ⌝ }
+    ensures kept { λ _. ⌜ now (buf .exit) ≡ afterFormat state (now (buf .entry)) (ofZ w32 key) text len (now (part .entry)) ⌝ }
+{
+    let k = words::bits(key);
+    let front = format_number(state, k, false, len, part.len());
+    let rules = first_of(front, given::judge_text(part, len as usize));
+    let head = Head::Key(k);
+    let done = append_text(buf, state.at, rules, head, len as usize, part);
+    format_turn(state, done, k)
 }

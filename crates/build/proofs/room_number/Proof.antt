@@ -1,5 +1,5 @@
 -- `build::room_number` meets its contract.
-use Prim.Native.Nat.{_+_, _<_, _≤_}
+use Prim.Native.Nat.{_+_, _<_}
 use native.Mathlib.Omega.{arith}
 use borrow.Author.Tests.{lt-ltb, le-ltb}
 use Rattle.build.specs.Order.{roomNumber}

@@ -1,0 +1,78 @@
+-- `build::format_text` meets its contract.
+use mathlib.Core.Path.{_≡_, _∙_, refl}
+use mir.Syntax.{w32}
+use mir.Val.{ofZ}
+use Rattle.words.proofs.Sign.{back}
+use Rattle.record.specs.Shown.{text}
+use Rattle.build.specs.Values.{givenNumber}
+use Rattle.build.specs.Turns.{formatGiven, afterFormat}
+use Rattle.build.proofs.Writing.{written-room, written-rules, plain-number, format-below, pair-eq, format-answer, after-written}
+use borrow.Author.Needs.{needs}
+use Rattle.build.proofs.format_text.Statement.{statement}
+use Rattle.build.proofs.format_text.Tie as tie
+use Rattle.build.proofs.format_text.Reads as reads
+use Rattle.build.proofs.format_text.Lts as lts
+use Rattle.build.proofs.append_text.Reads as append-text-reads
+use Rattle.build.proofs.first_of.Reads as first-of-reads
+use Rattle.build.proofs.format_number.Reads as format-number-reads
+use Rattle.build.proofs.format_turn.Reads as format-turn-reads
+use Rattle.given.proofs.judge_text.Reads as judge-text-reads
+use Rattle.words.proofs.bits.Reads as bits-reads
+
+-- src/lib.rt:823:9
+bits-requires : tie.Need-bits-requires
+bits-requires c κs = search needs
+
+-- src/lib.rt:824:9
+format-number-requires : tie.Need-format-number-requires
+format-number-requires c κs = search needs
+
+-- src/lib.rt:825:33
+judge-text-requires : tie.Need-judge-text-requires
+judge-text-requires c κs = search needs
+
+-- src/lib.rt:825:9
+first-of-requires : tie.Need-first-of-requires
+first-of-requires c κs = search needs
+
+-- src/lib.rt:827:9
+append-text-requires : tie.Need-append-text-requires
+append-text-requires c κs = search needs
+
+-- src/lib.rt:828:5
+format-turn-requires : tie.Need-format-turn-requires
+format-turn-requires c κs =
+    λ z.
+    let sound = written-rules _ _ _ _ _ (c .before .before .append-text .ensures .0) z in
+    (written-room _ _ _ _ _ (c .before .before .append-text .ensures .0) z, format-below _ _ _ _ _ _ _ _ (c .before .before .before .before .first-of .ensures) (c .before .before .before .before .before .before .format-number .ensures) sound)
+
+-- src/lib.rt:819:1
+same-length : tie.Need-same-length
+same-length c = search needs
+
+-- src/lib.rt:819:1
+returns : tie.Need-returns
+unfolding givenNumber formatGiven afterFormat
+returns c =
+    let a = c .before .before .before .before .before .before .before .before .before .before .before .args in
+    let st = a .state in
+    let xs = a .part .now in
+    let key : c .before .before .before .before .before .before .before .before .bits .result ≡ ofZ w32 (a .key) = rw (back (a .key) (c .before .before .before .before .before .before .before .before .before .before .before .fits .key)) at (c .before .before .before .before .before .before .before .before .bits .ensures) in
+    let n = plain-number st _ _ _ _ _ (a .len) _ text xs refl key refl (c .before .before .before .before .before .first-of .ensures) (c .before .before .before .before .before .before .before .format-number .ensures) (c .before .before .before .before .before .before .judge-text .ensures) in
+    let bs = pair-eq _ _ (a .len) (a .len) text xs key refl in (
+      c .format-turn .ensures ∙ format-answer st _ _ _ _ _ _ _ _ (c .before .before .before .append-text .ensures .0) bs n key,
+      c .before .before .before .append-text .ensures .1 ∙ after-written st _ _ _ _ _ bs n,
+    )
+
+pub format-text-spec : {M : Type 1} → statement M
+format-text-spec =
+    tie.close
+    (tie.spec
+    bits-requires
+    format-number-requires
+    judge-text-requires
+    first-of-requires
+    append-text-requires
+    format-turn-requires
+    same-length
+    returns)
