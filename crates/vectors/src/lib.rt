@@ -2,13 +2,16 @@
 // Rests on types for what an element is, on words for its number, and on values for the form of a refusal.
 ghost use mathlib.Core.Path.{_≡_};
 ghost use mathlib.Core.Logic.{_≢_};
-ghost use mathlib.Core.Bool.{false};
-ghost use Prim.Native.Nat.{_+_, _*_, _≤_};
+ghost use mathlib.Core.Bool.{true, false};
+ghost use Prim.Native.Nat.{_+_, _*_, _<_, _≤_};
 ghost use lib.ListN.{drop, length};
+ghost use Rattle.words.specs.Pick.{pick};
+ghost use Rattle.types.specs.Rows.{widthOf};
 ghost use Rattle.types.specs.Elements.{kind};
 ghost use Rattle.values.specs.Answers.{valueInside};
 ghost use Rattle.vectors.specs.Sound.{highest, codeMost, mostOf, sound};
-ghost use Rattle.vectors.specs.Vectors.{numbers, turned, stopped, vector, judged, judgedInside};
+ghost use Rattle.vectors.specs.Plain.{passed, allPassed, AllOn};
+ghost use Rattle.vectors.specs.Vectors.{numbers, turned, stopped, vector, vectors, judged, judgedInside};
 use types::Element;
 use types::Use;
 use values::Refusal;
@@ -84,6 +87,210 @@ fn vector_at(part: &[u8], code: u8, w: u8, most: u32, len: usize, from: usize) -
     Judged::Sound
 }
 
+// Whether an element goes on in a vector that has not ended: up to the most and outside the marks from `low` to `high`, or missing.
+fn passes(low: u32, high: u32, missing: u32, most: u32, raw: u32) -> bool
+    ensures { λ r. ⌜ r ≡ passed low high missing most raw ⌝ }
+{
+    if most < raw {
+        return raw == missing;
+    }
+    if raw < low {
+        return true;
+    }
+    high < raw
+}
+
+// The same of a byte, in as few bits: a sweep then takes as many bytes at once as it can.
+fn passes_byte(low: u8, high: u8, missing: u8, most: u8, raw: u8) -> bool
+    ensures { λ r. ⌜ r ≡ passed low high missing most raw ⌝ }
+{
+    if most < raw {
+        return raw == missing;
+    }
+    if raw < low {
+        return true;
+    }
+    high < raw
+}
+
+// Whether both hold, with no branch.
+fn both(a: bool, b: bool) -> bool
+    ensures { λ r. ⌜ r ≡ pick a b false ⌝ }
+{
+    a & b
+}
+
+// Whether elements of one byte pass, every one. No sweep leaves early, so that it takes many elements at once.
+fn bytes_pass(
+    part: &[u8],
+    from: usize,
+    count: usize,
+    low: u8,
+    high: u8,
+    missing: u8,
+    most: u8,
+) -> bool
+    requires { ⌜ from + count * 1 ≤ length (now part) ⌝ }
+    ensures { λ r. ⌜ r ≡ allPassed low high missing most (numbers 1 count (drop from (now (part .entry)))) ⌝ }
+{
+    let mut left = count;
+    let mut at = from;
+    let mut good = true;
+    while 0 < left {
+        good = both(good, passes_byte(low, high, missing, most, part[at]));
+        at += 1;
+        left -= 1;
+    }
+    good
+}
+
+// Whether elements of two bytes pass, every one.
+fn pairs_pass(
+    part: &[u8],
+    from: usize,
+    count: usize,
+    low: u32,
+    high: u32,
+    missing: u32,
+    most: u32,
+) -> bool
+    requires { ⌜ from + count * 2 ≤ length (now part) ⌝ }
+    ensures { λ r. ⌜ r ≡ allPassed low high missing most (numbers 2 count (drop from (now (part .entry)))) ⌝ }
+{
+    let mut left = count;
+    let mut at = from;
+    let mut good = true;
+    while 0 < left {
+        let stop = at + 2;
+        good = both(
+            good,
+            passes(low, high, missing, most, words::word(&part[at..stop])),
+        );
+        at = stop;
+        left -= 1;
+    }
+    good
+}
+
+// Whether elements of four bytes pass, every one.
+fn fours_pass(
+    part: &[u8],
+    from: usize,
+    count: usize,
+    low: u32,
+    high: u32,
+    missing: u32,
+    most: u32,
+) -> bool
+    requires { ⌜ from + count * 4 ≤ length (now part) ⌝ }
+    ensures { λ r. ⌜ r ≡ allPassed low high missing most (numbers 4 count (drop from (now (part .entry)))) ⌝ }
+{
+    let mut left = count;
+    let mut at = from;
+    let mut good = true;
+    while 0 < left {
+        let stop = at + 4;
+        good = both(
+            good,
+            passes(low, high, missing, most, words::word(&part[at..stop])),
+        );
+        at = stop;
+        left -= 1;
+    }
+    good
+}
+
+// The most that a byte may be under a bound.
+fn byte_most(most: u32) -> u8
+    ensures { λ r. ⌜ r ≤ most ⌝ }
+{
+    if most < 255 {
+        return most as u8;
+    }
+    255
+}
+
+// Whether so many elements from a place on are all plain, up to the most, or missing; where it is not told, they may be.
+fn is_plain(part: &[u8], code: u8, most: u32, from: usize, count: usize) -> bool
+    requires { ⌜ from + count * widthOf code ≤ length (now part) ⌝ }
+    ensures { λ r. ⌜ (r ≡ true → AllOn most code (numbers (widthOf code) count (drop from (now (part .entry))))) ⌝ }
+{
+    if code == 1 {
+        return bytes_pass(part, from, count, 0x81, 0x87, 0x80, byte_most(most));
+    }
+    if code == 2 {
+        return pairs_pass(part, from, count, 0x8001, 0x8007, 0x8000, most);
+    }
+    if code == 3 {
+        return fours_pass(part, from, count, 0x80000001, 0x80000007, 0x80000000, most);
+    }
+    if code == 5 {
+        return fours_pass(part, from, count, 0x7F800002, 0x7F800007, 0x7F800001, most);
+    }
+    if code == 7 {
+        return bytes_pass(part, from, count, 0, 0, 0, byte_most(most));
+    }
+    false
+}
+
+// So many vectors from a place on, one element after the other.
+fn vectors_at(
+    part: &[u8],
+    code: u8,
+    w: u8,
+    most: u32,
+    len: usize,
+    from: usize,
+    count: usize,
+) -> Judged
+    requires { ⌜ (from + count * (len * w) ≤ length (now part)) × (w ≤ 4) × (w ≢ 3) ⌝ }
+    ensures { λ r. ⌜ r ≡ vectors most code w len count from (drop from (now (part .entry))) ⌝ }
+    ensures { λ r. ⌜ judgedInside (length (now (part .entry))) r ⌝ }
+{
+    let mut left = count;
+    let mut at = from;
+    while 0 < left {
+        let v = vector_at(part, code, w, most, len, at);
+        let Judged::Sound = v else {
+            return v;
+        };
+        at += len * w as usize;
+        left -= 1;
+    }
+    Judged::Sound
+}
+
+// The same, at once where all their elements are plain or missing.
+fn block_at(
+    part: &[u8],
+    code: u8,
+    w: u8,
+    most: u32,
+    len: usize,
+    from: usize,
+    count: usize,
+) -> Judged
+    requires { ⌜ (from + count * (len * w) ≤ length (now part)) × (w ≤ 4) × (w ≢ 3) × (w ≡ widthOf code) × (0 < w) ⌝ }
+    ensures { λ r. ⌜ r ≡ vectors most code w len count from (drop from (now (part .entry))) ⌝ }
+    ensures { λ r. ⌜ judgedInside (length (now (part .entry))) r ⌝ }
+{
+    if is_plain(part, code, most, from, count * len) {
+        return Judged::Sound;
+    }
+    vectors_at(part, code, w, most, len, from, count)
+}
+
+// How many vectors are judged together, of those that are left.
+fn together(left: usize) -> usize
+    requires { ⌜ 0 < left ⌝ }
+    ensures { λ r. ⌜ (0 < r) × (r ≤ left) ⌝ }
+{
+    if left < 16 {
+        return left;
+    }
+    16
+}
+
 // The elements of a part that is vectors of `len` elements each; a plain one above `most` is refused with 10.
 pub fn judge(part: &[u8], code: u8, len: usize, most: u32) -> Judged
     ensures { λ r. ⌜ r ≡ judged most code len (now (part .entry)) ⌝ }
@@ -94,12 +301,13 @@ pub fn judge(part: &[u8], code: u8, len: usize, most: u32) -> Judged
     let mut left = words::over(words::over(part.len(), w as usize), len);
     let mut at = 0;
     while 0 < left {
-        let j = vector_at(part, code, w, most, len, at);
+        let k = together(left);
+        let j = block_at(part, code, w, most, len, at, k);
         let Judged::Sound = j else {
             return j;
         };
-        at += len * w as usize;
-        left -= 1;
+        at += k * (len * w as usize);
+        left -= k;
     }
     Judged::Sound
 }
