@@ -527,7 +527,7 @@ fn append_number(rules: u32, at: u32, size: usize, room: usize) -> u32
 fn append_text(buf: &mut [u8], at: u32, rules: u32, head: Head, len: usize, part: &[u8]) -> Written
     requires { ⌜ (length (now part) ≤ mostBytes → len < 2 ^ 32) ⌝ }
     ensures told { λ r. ⌜ r ≡ written at (length (now (buf .entry))) rules (headBytes head ++ givenBytes text len (now (part .entry))) ⌝ }
-    ensures kept { λ _. ⌜ now (buf .exit) ≡ writtenTo (now (buf .entry)) at rules (headBytes head ++ givenBytes text len (now (part .entry))) ⌝ }
+    ensures written { λ _. ⌜ now (buf .exit) ≡ writtenTo (now (buf .entry)) at rules (headBytes head ++ givenBytes text len (now (part .entry))) ⌝ }
 {
     let first = head_size(head);
     let size = first + value_size(len, part.len(), 1);
@@ -551,7 +551,7 @@ fn append_floats(
 ) -> Written
     requires { ⌜ (length (now bits) ≤ mostBytes → len < 2 ^ 32) ⌝ }
     ensures told { λ r. ⌜ r ≡ written at (length (now (buf .entry))) rules (headBytes head ++ givenBytes floats len (now (bits .entry))) ⌝ }
-    ensures kept { λ _. ⌜ now (buf .exit) ≡ writtenTo (now (buf .entry)) at rules (headBytes head ++ givenBytes floats len (now (bits .entry))) ⌝ }
+    ensures written { λ _. ⌜ now (buf .exit) ≡ writtenTo (now (buf .entry)) at rules (headBytes head ++ givenBytes floats len (now (bits .entry))) ⌝ }
 {
     let first = head_size(head);
     let size = first + value_size(len, bits.len(), 4);
@@ -575,7 +575,7 @@ fn append_integers(
 ) -> Written
     requires { ⌜ (length (now values) ≤ mostBytes → len < 2 ^ 32) ⌝ }
     ensures told { λ r. ⌜ r ≡ written at (length (now (buf .entry))) rules (headBytes head ++ givenBytes integers len (map (ofZ w32) (now (values .entry)))) ⌝ }
-    ensures kept { λ _. ⌜ now (buf .exit) ≡ writtenTo (now (buf .entry)) at rules (headBytes head ++ givenBytes integers len (map (ofZ w32) (now (values .entry)))) ⌝ }
+    ensures written { λ _. ⌜ now (buf .exit) ≡ writtenTo (now (buf .entry)) at rules (headBytes head ++ givenBytes integers len (map (ofZ w32) (now (values .entry)))) ⌝ }
 {
     let code = encode::widest_type(values);
     let row = types::row_of(code);
@@ -651,7 +651,7 @@ fn id_number(stage: Stage, part: &[u8]) -> u32
 // ID: any text.
 pub fn id(state: Builder, buf: &mut [u8], part: &[u8]) -> Turned
     ensures told { λ r. ⌜ r ≡ idGiven state (length (now (buf .entry))) (now (part .entry)) ⌝ }
-    ensures kept { λ _. ⌜ now (buf .exit) ≡ afterId state (now (buf .entry)) (now (part .entry)) ⌝ }
+    ensures written { λ _. ⌜ now (buf .exit) ≡ afterId state (now (buf .entry)) (now (part .entry)) ⌝ }
 {
     let stage = state.stage;
     let rules = id_number(stage, part);
@@ -683,7 +683,7 @@ fn allele_number(stage: Stage, alleles: u16, part: &[u8]) -> u32
 // An allele: not empty, its bytes from 21 to 7E.
 pub fn allele(state: Builder, buf: &mut [u8], part: &[u8]) -> Turned
     ensures told { λ r. ⌜ r ≡ alleleGiven state (length (now (buf .entry))) (now (part .entry)) ⌝ }
-    ensures kept { λ _. ⌜ now (buf .exit) ≡ afterAllele state (now (buf .entry)) (now (part .entry)) ⌝ }
+    ensures written { λ _. ⌜ now (buf .exit) ≡ afterAllele state (now (buf .entry)) (now (part .entry)) ⌝ }
 {
     let stage = state.stage;
     let rules = allele_number(stage, state.alleles, part);
@@ -706,7 +706,7 @@ fn filter_number(stage: Stage, strings: u32, values: &[i32]) -> u32
 // FILTER: offsets in the dictionary, none twice.
 pub fn filter(state: Builder, buf: &mut [u8], values: &[i32]) -> Turned
     ensures told { λ r. ⌜ r ≡ filterGiven state (length (now (buf .entry))) (map (ofZ w32) (now (values .entry))) ⌝ }
-    ensures kept { λ _. ⌜ now (buf .exit) ≡ afterFilter state (now (buf .entry)) (map (ofZ w32) (now (values .entry))) ⌝ }
+    ensures written { λ _. ⌜ now (buf .exit) ≡ afterFilter state (now (buf .entry)) (map (ofZ w32) (now (values .entry))) ⌝ }
 {
     let stage = state.stage;
     let rules = filter_number(stage, state.facts.strings, values);
@@ -719,7 +719,7 @@ pub fn filter(state: Builder, buf: &mut [u8], values: &[i32]) -> Turned
 // INFO with integers.
 pub fn info_integers(state: Builder, buf: &mut [u8], key: i32, values: &[i32]) -> Turned
     ensures told { λ r. ⌜ r ≡ infoGiven state (length (now (buf .entry))) (ofZ w32 key) integers (map (ofZ w32) (now (values .entry))) ⌝ }
-    ensures kept { λ _. ⌜ now (buf .exit) ≡ afterInfo state (now (buf .entry)) (ofZ w32 key) integers (map (ofZ w32) (now (values .entry))) ⌝ }
+    ensures written { λ _. ⌜ now (buf .exit) ≡ afterInfo state (now (buf .entry)) (ofZ w32 key) integers (map (ofZ w32) (now (values .entry))) ⌝ }
 {
     let k = words::bits(key);
     let stage = state.stage;
@@ -737,7 +737,7 @@ pub fn info_integers(state: Builder, buf: &mut [u8], key: i32, values: &[i32]) -
 // INFO with floats, given by their bits.
 pub fn info_floats(state: Builder, buf: &mut [u8], key: i32, bits: &[u32]) -> Turned
     ensures told { λ r. ⌜ r ≡ infoGiven state (length (now (buf .entry))) (ofZ w32 key) floats (now (bits .entry)) ⌝ }
-    ensures kept { λ _. ⌜ now (buf .exit) ≡ afterInfo state (now (buf .entry)) (ofZ w32 key) floats (now (bits .entry)) ⌝ }
+    ensures written { λ _. ⌜ now (buf .exit) ≡ afterInfo state (now (buf .entry)) (ofZ w32 key) floats (now (bits .entry)) ⌝ }
 {
     let k = words::bits(key);
     let stage = state.stage;
@@ -752,7 +752,7 @@ pub fn info_floats(state: Builder, buf: &mut [u8], key: i32, bits: &[u32]) -> Tu
 // INFO with text.
 pub fn info_text(state: Builder, buf: &mut [u8], key: i32, part: &[u8]) -> Turned
     ensures told { λ r. ⌜ r ≡ infoGiven state (length (now (buf .entry))) (ofZ w32 key) text (now (part .entry)) ⌝ }
-    ensures kept { λ _. ⌜ now (buf .exit) ≡ afterInfo state (now (buf .entry)) (ofZ w32 key) text (now (part .entry)) ⌝ }
+    ensures written { λ _. ⌜ now (buf .exit) ≡ afterInfo state (now (buf .entry)) (ofZ w32 key) text (now (part .entry)) ⌝ }
 {
     let k = words::bits(key);
     let stage = state.stage;
@@ -791,7 +791,7 @@ fn most_for(gt: u32, key: u32, alleles: u16) -> u32
 // FORMAT with integers, so many for each person.
 pub fn format_integers(state: Builder, buf: &mut [u8], key: i32, len: u32, values: &[i32]) -> Turned
     ensures told { λ r. ⌜ r ≡ formatGiven state (length (now (buf .entry))) (ofZ w32 key) integers len (map (ofZ w32) (now (values .entry))) ⌝ }
-    ensures kept { λ _. ⌜ now (buf .exit) ≡ afterFormat state (now (buf .entry)) (ofZ w32 key) integers len (map (ofZ w32) (now (values .entry))) ⌝ }
+    ensures written { λ _. ⌜ now (buf .exit) ≡ afterFormat state (now (buf .entry)) (ofZ w32 key) integers len (map (ofZ w32) (now (values .entry))) ⌝ }
 {
     let k = words::bits(key);
     let front = format_number(state, k, true, len, values.len());
@@ -805,7 +805,7 @@ pub fn format_integers(state: Builder, buf: &mut [u8], key: i32, len: u32, value
 // FORMAT with floats, given by their bits, so many for each person.
 pub fn format_floats(state: Builder, buf: &mut [u8], key: i32, len: u32, bits: &[u32]) -> Turned
     ensures told { λ r. ⌜ r ≡ formatGiven state (length (now (buf .entry))) (ofZ w32 key) floats len (now (bits .entry)) ⌝ }
-    ensures kept { λ _. ⌜ now (buf .exit) ≡ afterFormat state (now (buf .entry)) (ofZ w32 key) floats len (now (bits .entry)) ⌝ }
+    ensures written { λ _. ⌜ now (buf .exit) ≡ afterFormat state (now (buf .entry)) (ofZ w32 key) floats len (now (bits .entry)) ⌝ }
 {
     let k = words::bits(key);
     let front = format_number(state, k, false, len, bits.len());
@@ -818,7 +818,7 @@ pub fn format_floats(state: Builder, buf: &mut [u8], key: i32, len: u32, bits: &
 // FORMAT with text, so many bytes for each person.
 pub fn format_text(state: Builder, buf: &mut [u8], key: i32, len: u32, part: &[u8]) -> Turned
     ensures told { λ r. ⌜ r ≡ formatGiven state (length (now (buf .entry))) (ofZ w32 key) text len (now (part .entry)) ⌝ }
-    ensures kept { λ _. ⌜ now (buf .exit) ≡ afterFormat state (now (buf .entry)) (ofZ w32 key) text len (now (part .entry)) ⌝ }
+    ensures written { λ _. ⌜ now (buf .exit) ≡ afterFormat state (now (buf .entry)) (ofZ w32 key) text len (now (part .entry)) ⌝ }
 {
     let k = words::bits(key);
     let front = format_number(state, k, false, len, part.len());
