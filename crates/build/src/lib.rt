@@ -72,7 +72,7 @@ struct Written {
 }
 
 // How far a build is.
-fn rank_of(stage: Stage) -> u8
+pub fn rank_of(stage: Stage) -> u8
     ensures { λ r. ⌜ r ≡ rank stage ⌝ }
 {
     match stage {

@@ -1,0 +1,57 @@
+-- `c_api::sikalumdo_fetch` meets its contract.
+use mathlib.Core.Path.{_∙_, ap}
+use Prim.Native.Nat.{ℕ}
+use Rattle.fetch.specs.Fetch.{found}
+use Rattle.fetch.specs.declared.Kind.{Kind}
+use Rattle.told.specs.Told.{foundAnswer, foundNumbers}
+use Rattle.c_api.specs.Given.{factsOf, kindOf}
+use borrow.Author.Needs.{needs}
+use Rattle.c_api.proofs.sikalumdo_fetch.Statement.{statement}
+use Rattle.c_api.proofs.sikalumdo_fetch.Tie as tie
+use Rattle.c_api.proofs.sikalumdo_fetch.Reads as reads
+use Rattle.c_api.proofs.sikalumdo_fetch.Lts as lts
+use Rattle.c_api.proofs.kind_of.Reads as kind-of-reads
+use Rattle.c_api.proofs.number_of.Reads as number-of-reads
+use Rattle.fetch.proofs.find.Reads as find-reads
+use Rattle.told.proofs.tell_found.Reads as tell-found-reads
+
+-- src/lib.rt:95:35
+kind-of-requires : tie.Need-kind-of-requires
+kind-of-requires c κs = search needs
+
+-- src/lib.rt:95:50
+number-of-requires : tie.Need-number-of-requires
+number-of-requires c κs = search needs
+
+-- src/lib.rt:95:9
+find-requires : tie.Need-find-requires
+find-requires c κs = search needs
+
+-- src/lib.rt:96:5
+tell-found-requires : tie.Need-tell-found-requires
+tell-found-requires c κs = search needs
+
+-- src/lib.rt:75:1
+same-length : tie.Need-same-length
+same-length c = search needs
+
+-- src/lib.rt:75:1
+returns : tie.Need-returns
+returns c =
+    let a = c .before .before .before .before .before .before .before .before .before .args in
+    let f = factsOf (a .strings) (a .contigs) (a .people) (a .gt) in
+    let e =
+    c .before .before .before .before .find .ensures .0 ∙ ap (λ (k : Kind). found f k (c .before .before .before .before .before .number-of .result) (a .s .now)) (c .before .before .before .before .before .before .kind-of .ensures)
+    ∙ ap (λ (n : ℕ). found f (kindOf (a .kind)) n (a .s .now)) (c .before .before .before .before .before .number-of .ensures) in
+    (c .before .before .tell-found .ensures .0 ∙ ap (foundAnswer _) e, c .before .before .tell-found .ensures .1 ∙ ap (foundNumbers _) e)
+
+pub sikalumdo-fetch-spec : {M : Type 1} → statement M
+sikalumdo-fetch-spec =
+    tie.close
+    (tie.spec
+    kind-of-requires
+    number-of-requires
+    find-requires
+    tell-found-requires
+    same-length
+    returns)

@@ -1,0 +1,63 @@
+-- `c_api::sikalumdo_format_integers` meets its contract.
+use mathlib.Core.Path.{_∙_, ap}
+use mathlib.Core.List.{map}
+use lib.ListN.{length}
+use mir.Syntax.{w32}
+use mir.Val.{ofZ}
+use Rattle.words.proofs.Sign.{back}
+use Rattle.record.specs.Shown.{integers}
+use Rattle.build.specs.declared.Builder.{Builder}
+use Rattle.build.specs.Turns.{formatGiven, afterFormat}
+use Rattle.kept.specs.Kept.{turnAnswer, turnNumbers}
+use borrow.Author.Needs.{needs}
+use Rattle.c_api.proofs.sikalumdo_format_integers.Statement.{statement}
+use Rattle.c_api.proofs.sikalumdo_format_integers.Tie as tie
+use Rattle.c_api.proofs.sikalumdo_format_integers.Reads as reads
+use Rattle.c_api.proofs.sikalumdo_format_integers.Lts as lts
+use Rattle.build.proofs.format_integers.Reads as format-integers-reads
+use Rattle.kept.proofs.keep.Reads as keep-reads
+use Rattle.kept.proofs.state_of.Reads as state-of-reads
+
+-- src/lib.rt:312:36
+state-of-requires : tie.Need-state-of-requires
+state-of-requires c κs = search needs
+
+-- src/lib.rt:312:9
+format-integers-requires : tie.Need-format-integers-requires
+format-integers-requires c κs = search needs
+
+-- src/lib.rt:313:5
+keep-requires : tie.Need-keep-requires
+keep-requires c κs = search needs
+
+-- src/lib.rt:300:1
+same-length : tie.Need-same-length
+same-length c = search needs
+
+-- src/lib.rt:300:1
+same-length-2 : tie.Need-same-length-2
+same-length-2 c = search needs
+
+-- src/lib.rt:300:1
+returns : tie.Need-returns
+returns c =
+    let a = c .before .before .before .before .before .before .before .before .before .before .before .before .args in
+    let f = c .before .before .before .before .before .before .before .before .before .before .before .before .fits in
+    let told = rw (back (a .key) (f .key)) at (c .before .before .before .before .before .before .format-integers .ensures .0) in
+    let written = rw (back (a .key) (f .key)) at (c .before .before .before .before .before .before .format-integers .ensures .1) in
+    let st = c .before .before .before .before .before .before .before .before .state-of .ensures in
+    let e = told ∙ ap (λ (x : Builder). formatGiven x (length (a .buf .now)) (ofZ w32 (a .key)) integers (a .len) (map (ofZ w32) (a .values .now))) st in (
+      c .before .before .keep .ensures .0 ∙ ap turnAnswer e,
+      (c .before .before .keep .ensures .1 ∙ ap (turnNumbers _) e, written ∙ ap (λ (x : Builder). afterFormat x (a .buf .now) (ofZ w32 (a .key)) integers (a .len) (map (ofZ w32) (a .values .now))) st),
+    )
+
+pub sikalumdo-format-integers-spec : {M : Type 1} → statement M
+sikalumdo-format-integers-spec =
+    tie.close
+    (tie.spec
+    state-of-requires
+    format-integers-requires
+    keep-requires
+    same-length
+    same-length-2
+    returns)

@@ -1,0 +1,62 @@
+-- `c_api::sikalumdo_format_text` meets its contract.
+use mathlib.Core.Path.{_∙_, ap}
+use lib.ListN.{length}
+use mir.Syntax.{w32}
+use mir.Val.{ofZ}
+use Rattle.words.proofs.Sign.{back}
+use Rattle.record.specs.Shown.{text}
+use Rattle.build.specs.declared.Builder.{Builder}
+use Rattle.build.specs.Turns.{formatGiven, afterFormat}
+use Rattle.kept.specs.Kept.{turnAnswer, turnNumbers}
+use borrow.Author.Needs.{needs}
+use Rattle.c_api.proofs.sikalumdo_format_text.Statement.{statement}
+use Rattle.c_api.proofs.sikalumdo_format_text.Tie as tie
+use Rattle.c_api.proofs.sikalumdo_format_text.Reads as reads
+use Rattle.c_api.proofs.sikalumdo_format_text.Lts as lts
+use Rattle.build.proofs.format_text.Reads as format-text-reads
+use Rattle.kept.proofs.keep.Reads as keep-reads
+use Rattle.kept.proofs.state_of.Reads as state-of-reads
+
+-- src/lib.rt:346:32
+state-of-requires : tie.Need-state-of-requires
+state-of-requires c κs = search needs
+
+-- src/lib.rt:346:9
+format-text-requires : tie.Need-format-text-requires
+format-text-requires c κs = search needs
+
+-- src/lib.rt:347:5
+keep-requires : tie.Need-keep-requires
+keep-requires c κs = search needs
+
+-- src/lib.rt:334:1
+same-length : tie.Need-same-length
+same-length c = search needs
+
+-- src/lib.rt:334:1
+same-length-2 : tie.Need-same-length-2
+same-length-2 c = search needs
+
+-- src/lib.rt:334:1
+returns : tie.Need-returns
+returns c =
+    let a = c .before .before .before .before .before .before .before .before .before .before .before .before .before .args in
+    let f = c .before .before .before .before .before .before .before .before .before .before .before .before .before .fits in
+    let told = rw (back (a .key) (f .key)) at (c .before .before .before .before .before .before .format-text .ensures .0) in
+    let written = rw (back (a .key) (f .key)) at (c .before .before .before .before .before .before .format-text .ensures .1) in
+    let st = c .before .before .before .before .before .before .before .before .state-of .ensures in
+    let e = told ∙ ap (λ (x : Builder). formatGiven x (length (a .buf .now)) (ofZ w32 (a .key)) text (a .len) (a .part .now)) st in (
+      c .before .before .keep .ensures .0 ∙ ap turnAnswer e,
+      (c .before .before .keep .ensures .1 ∙ ap (turnNumbers _) e, written ∙ ap (λ (x : Builder). afterFormat x (a .buf .now) (ofZ w32 (a .key)) text (a .len) (a .part .now)) st),
+    )
+
+pub sikalumdo-format-text-spec : {M : Type 1} → statement M
+sikalumdo-format-text-spec =
+    tie.close
+    (tie.spec
+    state-of-requires
+    format-text-requires
+    keep-requires
+    same-length
+    same-length-2
+    returns)

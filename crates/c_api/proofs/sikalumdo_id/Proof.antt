@@ -1,0 +1,49 @@
+-- `c_api::sikalumdo_id` meets its contract.
+use mathlib.Core.Path.{_∙_, ap}
+use lib.ListN.{length}
+use Rattle.build.specs.declared.Builder.{Builder}
+use Rattle.build.specs.Turns.{idGiven, afterId}
+use Rattle.kept.specs.Kept.{turnAnswer, turnNumbers}
+use borrow.Author.Needs.{needs}
+use Rattle.c_api.proofs.sikalumdo_id.Statement.{statement}
+use Rattle.c_api.proofs.sikalumdo_id.Tie as tie
+use Rattle.c_api.proofs.sikalumdo_id.Reads as reads
+use Rattle.c_api.proofs.sikalumdo_id.Lts as lts
+use Rattle.build.proofs.id.Reads as id-reads
+use Rattle.kept.proofs.keep.Reads as keep-reads
+use Rattle.kept.proofs.state_of.Reads as state-of-reads
+
+-- src/lib.rt:225:23
+state-of-requires : tie.Need-state-of-requires
+state-of-requires c κs = search needs
+
+-- src/lib.rt:225:9
+id-requires : tie.Need-id-requires
+id-requires c κs = search needs
+
+-- src/lib.rt:226:5
+keep-requires : tie.Need-keep-requires
+keep-requires c κs = search needs
+
+-- src/lib.rt:219:1
+same-length : tie.Need-same-length
+same-length c = search needs
+
+-- src/lib.rt:219:1
+same-length-2 : tie.Need-same-length-2
+same-length-2 c = search needs
+
+-- src/lib.rt:219:1
+returns : tie.Need-returns
+returns c =
+    let a = c .before .before .before .before .before .before .before .before .before .before .before .before .before .args in
+    let st = c .before .before .before .before .before .before .before .before .state-of .ensures in
+    let e = c .before .before .before .before .before .before .id .ensures .0 ∙ ap (λ (x : Builder). idGiven x (length (a .buf .now)) (a .text .now)) st in (
+      c .before .before .keep .ensures .0 ∙ ap turnAnswer e,
+      (c .before .before .keep .ensures .1 ∙ ap (turnNumbers _) e, c .before .before .before .before .before .before .id .ensures .1 ∙ ap (λ (x : Builder). afterId x (a .buf .now) (a .text .now)) st),
+    )
+
+pub sikalumdo-id-spec : {M : Type 1} → statement M
+sikalumdo-id-spec =
+    tie.close
+    (tie.spec state-of-requires id-requires keep-requires same-length same-length-2 returns)

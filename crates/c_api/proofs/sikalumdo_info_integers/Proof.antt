@@ -1,0 +1,63 @@
+-- `c_api::sikalumdo_info_integers` meets its contract.
+use mathlib.Core.Path.{_∙_, ap}
+use mathlib.Core.List.{map}
+use lib.ListN.{length}
+use mir.Syntax.{w32}
+use mir.Val.{ofZ}
+use Rattle.words.proofs.Sign.{back}
+use Rattle.record.specs.Shown.{integers}
+use Rattle.build.specs.declared.Builder.{Builder}
+use Rattle.build.specs.Turns.{infoGiven, afterInfo}
+use Rattle.kept.specs.Kept.{turnAnswer, turnNumbers}
+use borrow.Author.Needs.{needs}
+use Rattle.c_api.proofs.sikalumdo_info_integers.Statement.{statement}
+use Rattle.c_api.proofs.sikalumdo_info_integers.Tie as tie
+use Rattle.c_api.proofs.sikalumdo_info_integers.Reads as reads
+use Rattle.c_api.proofs.sikalumdo_info_integers.Lts as lts
+use Rattle.build.proofs.info_integers.Reads as info-integers-reads
+use Rattle.kept.proofs.keep.Reads as keep-reads
+use Rattle.kept.proofs.state_of.Reads as state-of-reads
+
+-- src/lib.rt:263:34
+state-of-requires : tie.Need-state-of-requires
+state-of-requires c κs = search needs
+
+-- src/lib.rt:263:9
+info-integers-requires : tie.Need-info-integers-requires
+info-integers-requires c κs = search needs
+
+-- src/lib.rt:264:5
+keep-requires : tie.Need-keep-requires
+keep-requires c κs = search needs
+
+-- src/lib.rt:252:1
+same-length : tie.Need-same-length
+same-length c = search needs
+
+-- src/lib.rt:252:1
+same-length-2 : tie.Need-same-length-2
+same-length-2 c = search needs
+
+-- src/lib.rt:252:1
+returns : tie.Need-returns
+returns c =
+    let a = c .before .before .before .before .before .before .before .before .before .before .before .before .args in
+    let f = c .before .before .before .before .before .before .before .before .before .before .before .before .fits in
+    let told = rw (back (a .key) (f .key)) at (c .before .before .before .before .before .before .info-integers .ensures .0) in
+    let written = rw (back (a .key) (f .key)) at (c .before .before .before .before .before .before .info-integers .ensures .1) in
+    let st = c .before .before .before .before .before .before .before .before .state-of .ensures in
+    let e = told ∙ ap (λ (x : Builder). infoGiven x (length (a .buf .now)) (ofZ w32 (a .key)) integers (map (ofZ w32) (a .values .now))) st in (
+      c .before .before .keep .ensures .0 ∙ ap turnAnswer e,
+      (c .before .before .keep .ensures .1 ∙ ap (turnNumbers _) e, written ∙ ap (λ (x : Builder). afterInfo x (a .buf .now) (ofZ w32 (a .key)) integers (map (ofZ w32) (a .values .now))) st),
+    )
+
+pub sikalumdo-info-integers-spec : {M : Type 1} → statement M
+sikalumdo-info-integers-spec =
+    tie.close
+    (tie.spec
+    state-of-requires
+    info-integers-requires
+    keep-requires
+    same-length
+    same-length-2
+    returns)

@@ -1,0 +1,359 @@
+// The functions that other languages call, by the C calling convention: numbers and lent slices in, one u64 out. Its high half is the number of
+// a refusal; its low half is the refusal's place or, with number 0, a length. A refusal writes nothing. Rests on told for answers and on
+// kept for the state of a build; the format's rules are in the crates below.
+ghost use mathlib.Core.Path.{_≡_};
+ghost use mathlib.Core.List.{map};
+ghost use lib.ListN.{length};
+ghost use mir.Syntax.{w32};
+ghost use mir.Val.{ofZ};
+ghost use Rattle.record.specs.Reading.{reading};
+ghost use Rattle.record.specs.Shown.{integers, floats, text};
+ghost use Rattle.fetch.specs.Fetch.{found};
+ghost use Rattle.elements.specs.Elements.{elementAt};
+ghost use Rattle.tally.specs.Tally.{tallied};
+ghost use Rattle.choose.specs.Choose.{choosing, afterChoosing};
+ghost use Rattle.walker.specs.Walk.{opened, pairAt};
+ghost use Rattle.build.specs.Turns.{begun, afterBegin, idGiven, afterId, alleleGiven, afterAllele, filterGiven, afterFilter, infoGiven, afterInfo, formatGiven, afterFormat, built, afterEnd};
+ghost use Rattle.told.specs.Told.{readingAnswer, readingNumbers, foundAnswer, foundNumbers, pairAnswer, pairNumbers, openingAnswer, shownAnswer, talliedAnswer, talliedNumbers, choosingAnswer};
+ghost use Rattle.kept.specs.Kept.{stateOf, turnAnswer, turnNumbers, freshAnswer, freshNumbers};
+ghost use Rattle.c_api.specs.Given.{factsOf, kindOf, numberOf};
+use fetch::Kind;
+use fixed::Facts;
+
+// The kind of a number.
+fn kind_of(kind: u32) -> Kind
+    ensures { λ r. ⌜ r ≡ kindOf kind ⌝ }
+{
+    if kind == 1 {
+        return Kind::Allele;
+    }
+    if kind == 2 {
+        return Kind::Filter;
+    }
+    if kind == 3 {
+        return Kind::Info;
+    }
+    if kind == 4 {
+        return Kind::Format;
+    }
+    Kind::Id
+}
+
+// The number to look for: that of no field for a kind outside the five.
+fn number_of(kind: u32, number: u32) -> u32
+    ensures { λ r. ⌜ r ≡ numberOf kind number ⌝ }
+{
+    if 4 < kind {
+        return 1;
+    }
+    number
+}
+
+// Reads the record at the start of a slice: its length; `out` gets 13 numbers.
+#[no_mangle]
+pub extern "C" fn sikalumdo_read(
+    s: &[u8],
+    strings: u32,
+    contigs: u32,
+    people: u32,
+    gt: u32,
+    out: &mut [u64],
+) -> u64
+    ensures told { λ r. ⌜ r ≡ readingAnswer (length (now (out .entry))) (reading (factsOf strings contigs people gt) (now (s .entry))) ⌝ }
+    ensures written { λ _. ⌜ now (out .exit) ≡ readingNumbers (now (out .entry)) (reading (factsOf strings contigs people gt) (now (s .entry))) ⌝ }
+{
+    let facts = Facts {
+        strings,
+        contigs,
+        people,
+        gt,
+    };
+    told::tell_reading(record::read(s, facts), out)
+}
+
+// Fetches the field of a kind and a number: the length of its elements' bytes; `out` gets 5 numbers.
+#[no_mangle]
+pub extern "C" fn sikalumdo_fetch(
+    s: &[u8],
+    strings: u32,
+    contigs: u32,
+    people: u32,
+    gt: u32,
+    kind: u32,
+    number: u32,
+    out: &mut [u64],
+) -> u64
+    ensures told { λ r. ⌜ r ≡ foundAnswer (length (now (out .entry))) (found (factsOf strings contigs people gt) (kindOf kind) (numberOf kind number) (now (s .entry))) ⌝ }
+    ensures written { λ _. ⌜ now (out .exit) ≡ foundNumbers (now (out .entry)) (found (factsOf strings contigs people gt) (kindOf kind) (numberOf kind number) (now (s .entry))) ⌝ }
+{
+    let facts = Facts {
+        strings,
+        contigs,
+        people,
+        gt,
+    };
+    let f = fetch::find(s, facts, kind_of(kind), number_of(kind, number));
+    told::tell_found(f, out)
+}
+
+// Shows an element of a fetched part by its 32 bits.
+#[no_mangle]
+pub extern "C" fn sikalumdo_shown(part: &[u8], code: u8, index: usize) -> u64
+    ensures { λ r. ⌜ r ≡ shownAnswer (elementAt code index (now (part .entry))) ⌝ }
+{
+    told::tell_shown(elements::element_at(part, code, index))
+}
+
+// Tallies the record at the start of a slice: its length; `out` gets 68 numbers.
+#[no_mangle]
+pub extern "C" fn sikalumdo_tally(
+    s: &[u8],
+    strings: u32,
+    contigs: u32,
+    people: u32,
+    gt: u32,
+    out: &mut [u64],
+) -> u64
+    ensures told { λ r. ⌜ r ≡ talliedAnswer (length (now (out .entry))) (tallied (factsOf strings contigs people gt) (now (s .entry))) ⌝ }
+    ensures written { λ _. ⌜ now (out .exit) ≡ talliedNumbers (now (out .entry)) (tallied (factsOf strings contigs people gt) (now (s .entry))) ⌝ }
+{
+    let facts = Facts {
+        strings,
+        contigs,
+        people,
+        gt,
+    };
+    told::tell_tally(tally::tally(s, facts), out)
+}
+
+// Chooses people: the chosen record's length; `buf` gets its bytes.
+#[no_mangle]
+pub extern "C" fn sikalumdo_choose(
+    s: &[u8],
+    strings: u32,
+    contigs: u32,
+    people: u32,
+    gt: u32,
+    choice: &[u32],
+    buf: &mut [u8],
+) -> u64
+    ensures told { λ r. ⌜ r ≡ choosingAnswer (choosing (factsOf strings contigs people gt) (now (choice .entry)) (length (now (buf .entry))) (now (s .entry))) ⌝ }
+    ensures written { λ _. ⌜ now (buf .exit) ≡ afterChoosing (factsOf strings contigs people gt) (now (choice .entry)) (now (buf .entry)) (now (s .entry)) ⌝ }
+{
+    let facts = Facts {
+        strings,
+        contigs,
+        people,
+        gt,
+    };
+    told::tell_choosing(choose::choose(s, facts, choice, buf))
+}
+
+// Opens the walk of the INFO pairs: the place of the first one.
+#[no_mangle]
+pub extern "C" fn sikalumdo_first_pair(
+    s: &[u8],
+    strings: u32,
+    contigs: u32,
+    people: u32,
+    gt: u32,
+) -> u64
+    ensures { λ r. ⌜ r ≡ openingAnswer (opened (factsOf strings contigs people gt) (now (s .entry))) ⌝ }
+{
+    let facts = Facts {
+        strings,
+        contigs,
+        people,
+        gt,
+    };
+    told::tell_opening(walker::opening_of(s, facts))
+}
+
+// The INFO pair at a place: the length of its elements' bytes; `out` gets 5 numbers, the last of them the next pair's place.
+#[no_mangle]
+pub extern "C" fn sikalumdo_pair(s: &[u8], at: usize, out: &mut [u64]) -> u64
+    ensures told { λ r. ⌜ r ≡ pairAnswer (length (now (out .entry))) (pairAt (now (s .entry)) at) ⌝ }
+    ensures written { λ _. ⌜ now (out .exit) ≡ pairNumbers (now (out .entry)) (pairAt (now (s .entry)) at) ⌝ }
+{
+    told::tell_pair(walker::pair_at(s, at), out)
+}
+
+// Makes a fresh state in 266 numbers.
+#[no_mangle]
+pub extern "C" fn sikalumdo_fresh(state: &mut [u32]) -> u64
+    ensures told { λ r. ⌜ r ≡ freshAnswer (length (now (state .entry))) ⌝ }
+    ensures written { λ _. ⌜ now (state .exit) ≡ freshNumbers (now (state .entry)) ⌝ }
+{
+    kept::put_fresh(state)
+}
+
+// Begin: the bytes written so far, as every turn tells.
+#[no_mangle]
+pub extern "C" fn sikalumdo_begin(
+    state: &mut [u32],
+    buf: &mut [u8],
+    strings: u32,
+    contigs: u32,
+    people: u32,
+    gt: u32,
+    chrom: i32,
+    pos: i32,
+    rlen: i32,
+    qual: u32,
+) -> u64
+    ensures told { λ r. ⌜ r ≡ turnAnswer (begun (stateOf (now (state .entry))) (length (now (buf .entry))) (factsOf strings contigs people gt) (ofZ w32 chrom) (ofZ w32 pos) (ofZ w32 rlen) qual) ⌝ }
+    ensures kept { λ _. ⌜ now (state .exit) ≡ turnNumbers (now (state .entry)) (begun (stateOf (now (state .entry))) (length (now (buf .entry))) (factsOf strings contigs people gt) (ofZ w32 chrom) (ofZ w32 pos) (ofZ w32 rlen) qual) ⌝ }
+    ensures written { λ _. ⌜ now (buf .exit) ≡ afterBegin (stateOf (now (state .entry))) (now (buf .entry)) (factsOf strings contigs people gt) (ofZ w32 chrom) (ofZ w32 pos) (ofZ w32 rlen) qual ⌝ }
+{
+    let facts = Facts {
+        strings,
+        contigs,
+        people,
+        gt,
+    };
+    let t = build::begin(kept::state_of(state), buf, facts, chrom, pos, rlen, qual);
+    kept::keep(state, t)
+}
+
+// ID.
+#[no_mangle]
+pub extern "C" fn sikalumdo_id(state: &mut [u32], buf: &mut [u8], text: &[u8]) -> u64
+    ensures told { λ r. ⌜ r ≡ turnAnswer (idGiven (stateOf (now (state .entry))) (length (now (buf .entry))) (now (text .entry))) ⌝ }
+    ensures kept { λ _. ⌜ now (state .exit) ≡ turnNumbers (now (state .entry)) (idGiven (stateOf (now (state .entry))) (length (now (buf .entry))) (now (text .entry))) ⌝ }
+    ensures written { λ _. ⌜ now (buf .exit) ≡ afterId (stateOf (now (state .entry))) (now (buf .entry)) (now (text .entry)) ⌝ }
+{
+    let t = build::id(kept::state_of(state), buf, text);
+    kept::keep(state, t)
+}
+
+// One allele, the first of them the reference.
+#[no_mangle]
+pub extern "C" fn sikalumdo_allele(state: &mut [u32], buf: &mut [u8], text: &[u8]) -> u64
+    ensures told { λ r. ⌜ r ≡ turnAnswer (alleleGiven (stateOf (now (state .entry))) (length (now (buf .entry))) (now (text .entry))) ⌝ }
+    ensures kept { λ _. ⌜ now (state .exit) ≡ turnNumbers (now (state .entry)) (alleleGiven (stateOf (now (state .entry))) (length (now (buf .entry))) (now (text .entry))) ⌝ }
+    ensures written { λ _. ⌜ now (buf .exit) ≡ afterAllele (stateOf (now (state .entry))) (now (buf .entry)) (now (text .entry)) ⌝ }
+{
+    let t = build::allele(kept::state_of(state), buf, text);
+    kept::keep(state, t)
+}
+
+// FILTER: offsets into the dictionary.
+#[no_mangle]
+pub extern "C" fn sikalumdo_filter(state: &mut [u32], buf: &mut [u8], offsets: &[i32]) -> u64
+    ensures told { λ r. ⌜ r ≡ turnAnswer (filterGiven (stateOf (now (state .entry))) (length (now (buf .entry))) (map (ofZ w32) (now (offsets .entry)))) ⌝ }
+    ensures kept { λ _. ⌜ now (state .exit) ≡ turnNumbers (now (state .entry)) (filterGiven (stateOf (now (state .entry))) (length (now (buf .entry))) (map (ofZ w32) (now (offsets .entry)))) ⌝ }
+    ensures written { λ _. ⌜ now (buf .exit) ≡ afterFilter (stateOf (now (state .entry))) (now (buf .entry)) (map (ofZ w32) (now (offsets .entry))) ⌝ }
+{
+    let t = build::filter(kept::state_of(state), buf, offsets);
+    kept::keep(state, t)
+}
+
+// An INFO field of integers.
+#[no_mangle]
+pub extern "C" fn sikalumdo_info_integers(
+    state: &mut [u32],
+    buf: &mut [u8],
+    key: i32,
+    values: &[i32],
+) -> u64
+    ensures told { λ r. ⌜ r ≡ turnAnswer (infoGiven (stateOf (now (state .entry))) (length (now (buf .entry))) (ofZ w32 key) integers (map (ofZ w32) (now (values .entry)))) ⌝ }
+    ensures kept { λ _. ⌜ now (state .exit) ≡ turnNumbers (now (state .entry)) (infoGiven (stateOf (now (state .entry))) (length (now (buf .entry))) (ofZ w32 key) integers (map (ofZ w32) (now (values .entry)))) ⌝ }
+    ensures written { λ _. ⌜ now (buf .exit) ≡ afterInfo (stateOf (now (state .entry))) (now (buf .entry)) (ofZ w32 key) integers (map (ofZ w32) (now (values .entry))) ⌝ }
+{
+    let t = build::info_integers(kept::state_of(state), buf, key, values);
+    kept::keep(state, t)
+}
+
+// An INFO field of floats.
+#[no_mangle]
+pub extern "C" fn sikalumdo_info_floats(
+    state: &mut [u32],
+    buf: &mut [u8],
+    key: i32,
+    bits: &[u32],
+) -> u64
+    ensures told { λ r. ⌜ r ≡ turnAnswer (infoGiven (stateOf (now (state .entry))) (length (now (buf .entry))) (ofZ w32 key) floats (now (bits .entry))) ⌝ }
+    ensures kept { λ _. ⌜ now (state .exit) ≡ turnNumbers (now (state .entry)) (infoGiven (stateOf (now (state .entry))) (length (now (buf .entry))) (ofZ w32 key) floats (now (bits .entry))) ⌝ }
+    ensures written { λ _. ⌜ now (buf .exit) ≡ afterInfo (stateOf (now (state .entry))) (now (buf .entry)) (ofZ w32 key) floats (now (bits .entry)) ⌝ }
+{
+    let t = build::info_floats(kept::state_of(state), buf, key, bits);
+    kept::keep(state, t)
+}
+
+// An INFO field of text.
+#[no_mangle]
+pub extern "C" fn sikalumdo_info_text(
+    state: &mut [u32],
+    buf: &mut [u8],
+    key: i32,
+    part: &[u8],
+) -> u64
+    ensures told { λ r. ⌜ r ≡ turnAnswer (infoGiven (stateOf (now (state .entry))) (length (now (buf .entry))) (ofZ w32 key) text (now (part .entry))) ⌝ }
+    ensures kept { λ _. ⌜ now (state .exit) ≡ turnNumbers (now (state .entry)) (infoGiven (stateOf (now (state .entry))) (length (now (buf .entry))) (ofZ w32 key) text (now (part .entry))) ⌝ }
+    ensures written { λ _. ⌜ now (buf .exit) ≡ afterInfo (stateOf (now (state .entry))) (now (buf .entry)) (ofZ w32 key) text (now (part .entry)) ⌝ }
+{
+    let t = build::info_text(kept::state_of(state), buf, key, part);
+    kept::keep(state, t)
+}
+
+// A FORMAT field of integers: a vector of `len` for each person, one after the other.
+#[no_mangle]
+pub extern "C" fn sikalumdo_format_integers(
+    state: &mut [u32],
+    buf: &mut [u8],
+    key: i32,
+    len: u32,
+    values: &[i32],
+) -> u64
+    ensures told { λ r. ⌜ r ≡ turnAnswer (formatGiven (stateOf (now (state .entry))) (length (now (buf .entry))) (ofZ w32 key) integers len (map (ofZ w32) (now (values .entry)))) ⌝ }
+    ensures kept { λ _. ⌜ now (state .exit) ≡ turnNumbers (now (state .entry)) (formatGiven (stateOf (now (state .entry))) (length (now (buf .entry))) (ofZ w32 key) integers len (map (ofZ w32) (now (values .entry)))) ⌝ }
+    ensures written { λ _. ⌜ now (buf .exit) ≡ afterFormat (stateOf (now (state .entry))) (now (buf .entry)) (ofZ w32 key) integers len (map (ofZ w32) (now (values .entry))) ⌝ }
+{
+    let t = build::format_integers(kept::state_of(state), buf, key, len, values);
+    kept::keep(state, t)
+}
+
+// A FORMAT field of floats: a vector of `len` for each person, one after the other.
+#[no_mangle]
+pub extern "C" fn sikalumdo_format_floats(
+    state: &mut [u32],
+    buf: &mut [u8],
+    key: i32,
+    len: u32,
+    bits: &[u32],
+) -> u64
+    ensures told { λ r. ⌜ r ≡ turnAnswer (formatGiven (stateOf (now (state .entry))) (length (now (buf .entry))) (ofZ w32 key) floats len (now (bits .entry))) ⌝ }
+    ensures kept { λ _. ⌜ now (state .exit) ≡ turnNumbers (now (state .entry)) (formatGiven (stateOf (now (state .entry))) (length (now (buf .entry))) (ofZ w32 key) floats len (now (bits .entry))) ⌝ }
+    ensures written { λ _. ⌜ now (buf .exit) ≡ afterFormat (stateOf (now (state .entry))) (now (buf .entry)) (ofZ w32 key) floats len (now (bits .entry)) ⌝ }
+{
+    let t = build::format_floats(kept::state_of(state), buf, key, len, bits);
+    kept::keep(state, t)
+}
+
+// A FORMAT field of text: a vector of `len` for each person, one after the other.
+#[no_mangle]
+pub extern "C" fn sikalumdo_format_text(
+    state: &mut [u32],
+    buf: &mut [u8],
+    key: i32,
+    len: u32,
+    part: &[u8],
+) -> u64
+    ensures told { λ r. ⌜ r ≡ turnAnswer (formatGiven (stateOf (now (state .entry))) (length (now (buf .entry))) (ofZ w32 key) text len (now (part .entry))) ⌝ }
+    ensures kept { λ _. ⌜ now (state .exit) ≡ turnNumbers (now (state .entry)) (formatGiven (stateOf (now (state .entry))) (length (now (buf .entry))) (ofZ w32 key) text len (now (part .entry))) ⌝ }
+    ensures written { λ _. ⌜ now (buf .exit) ≡ afterFormat (stateOf (now (state .entry))) (now (buf .entry)) (ofZ w32 key) text len (now (part .entry)) ⌝ }
+{
+    let t = build::format_text(kept::state_of(state), buf, key, len, part);
+    kept::keep(state, t)
+}
+
+// End: the record's length.
+#[no_mangle]
+pub extern "C" fn sikalumdo_end(state: &mut [u32], buf: &mut [u8]) -> u64
+    ensures told { λ r. ⌜ r ≡ turnAnswer (built (stateOf (now (state .entry))) (length (now (buf .entry)))) ⌝ }
+    ensures kept { λ _. ⌜ now (state .exit) ≡ turnNumbers (now (state .entry)) (built (stateOf (now (state .entry))) (length (now (buf .entry)))) ⌝ }
+    ensures written { λ _. ⌜ now (buf .exit) ≡ afterEnd (stateOf (now (state .entry))) (now (buf .entry)) ⌝ }
+{
+    let t = build::end(kept::state_of(state), buf);
+    kept::keep(state, t)
+}

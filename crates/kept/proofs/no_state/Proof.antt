@@ -1,0 +1,16 @@
+-- `kept::no_state` meets its contract.
+use mathlib.Core.Path.{refl}
+use Rattle.build.specs.Turns.{freshState}
+use Rattle.kept.proofs.no_state.Statement.{statement}
+use Rattle.kept.proofs.no_state.Tie as tie
+use Rattle.kept.proofs.no_state.Reads as reads
+use Rattle.kept.proofs.no_state.Lts as lts
+
+-- src/lib.rt:56:1
+-- fill: f5840508
+returns : tie.Need-returns
+unfolding freshState
+returns c = refl
+
+pub no-state-spec : {M : Type 1} → statement M
+no-state-spec = tie.close (tie.spec returns)

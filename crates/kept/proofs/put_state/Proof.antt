@@ -1,0 +1,93 @@
+-- `kept::put_state` meets its contract: ten numbers, and the keys right behind them.
+use mathlib.Core.Path.{_≡_, _∙_, sym, ap}
+use mathlib.Core.List.{List, [], _∷_}
+use Prim.Native.Nat.{ℕ}
+use native.Mathlib.Omega.{arith}
+use lib.ListN.{length, length-map}
+use Rattle.stores.specs.Stores.{filled}
+use Rattle.stores.proofs.Room.{filled-short}
+use Rattle.told.proofs.Room.{filled-both}
+use Rattle.build.specs.Order.{rank}
+use borrow.Author.Needs.{needs}
+use Rattle.kept.proofs.put_state.Statement.{statement}
+use Rattle.kept.proofs.put_state.Tie as tie
+use Rattle.kept.proofs.put_state.Reads as reads
+use Rattle.kept.proofs.put_state.Lts as lts
+use Rattle.build.proofs.rank_of.Reads as rank-of-reads
+use Rattle.kept.proofs.put_numbers.Reads as put-numbers-reads
+
+-- src/lib.rt:124:9
+returns : tie.Need-returns
+returns c =
+    let k : length (c .before .before .args .state .keys) ≡ 256 = rw length-map at (c .before .before .good .1 .0 .1 .1 .1 .1 .1 .1 .1 .1 .1 .0 .1 .0 .1) in
+    sym (filled-short _ 0 _ (omega (arith, k, c .if1 .taken)))
+
+-- src/lib.rt:135:9
+cast-t8 : tie.Need-cast-t8
+cast-t8 c = search needs
+
+-- src/lib.rt:136:9
+cast-t9 : tie.Need-cast-t9
+cast-t9 c = search needs
+
+-- src/lib.rt:137:9
+cast-t10 : tie.Need-cast-t10
+cast-t10 c = search needs
+
+-- src/lib.rt:138:9
+rank-of-requires : tie.Need-rank-of-requires
+rank-of-requires c κs = search needs
+
+-- src/lib.rt:138:9
+cast-t12 : tie.Need-cast-t12
+cast-t12 c = search needs
+
+-- src/lib.rt:140:29
+slice-aggregate-put-numbers : tie.Need-slice-aggregate-put-numbers
+slice-aggregate-put-numbers c = search needs
+
+-- src/lib.rt:140:5
+put-numbers-requires : tie.Need-put-numbers-requires
+put-numbers-requires c κs = search needs
+
+-- src/lib.rt:141:30
+slice-aggregate-put-numbers-2 : tie.Need-slice-aggregate-put-numbers-2
+slice-aggregate-put-numbers-2 c =
+    let k : length (c .before .before .before .before .before .before .before .before .before .before .before .before .before .before .args .state .keys) ≡ 256 = rw length-map at (c .before .before .before .before .before .before .before .before .before .before .before .before .before .before .good .1 .0 .1 .1 .1 .1 .1 .1 .1 .1 .1 .0 .1 .0 .1) in
+    search (needs, k)
+
+-- src/lib.rt:141:5
+put-numbers-requires-2 : tie.Need-put-numbers-requires-2
+put-numbers-requires-2 c κs = search needs
+
+-- src/lib.rt:120:1
+same-length : tie.Need-same-length
+same-length c = search needs
+
+-- src/lib.rt:120:1
+returns-2 : tie.Need-returns-2
+returns-2 c =
+    let a = c .before .before .before .before .before .before .before .before .before .before .before .before .before .before .before .before .before .args in
+    let st = a .state in
+    let k : length (st .keys) ≡ 256 = rw length-map at (c .before .before .before .before .before .before .before .before .before .before .before .before .before .before .before .before .before .good .1 .0 .1 .1 .1 .1 .1 .1 .1 .1 .1 .0 .1 .0 .1) in
+    let f = st .facts in
+    let ten : ℕ → List ℕ = λ r. f .strings ∷ f .contigs ∷ f .people ∷ f .gt ∷ st .at ∷ st .border ∷ st .alleles ∷ st .infos ∷ st .formats ∷ r ∷ [] in
+    let both = filled-both (a .numbers .now) (ten (rank (st .stage))) (st .keys) (omega (arith, k, c .before .before .before .before .before .before .before .before .before .before .before .before .before .before .before .if1 .left)) in
+    c .before .before .put-numbers2 .ensures ∙ ap (λ (o : List ℕ). filled o 10 (st .keys)) (c .before .before .before .before .before .before .before .put-numbers .ensures ∙ ap (λ (r : ℕ). filled (a .numbers .now) 0 (ten r)) (c .before .before .before .before .before .before .before .before .before .before .rank-of .ensures)) ∙ both
+
+pub put-state-spec : {M : Type 1} → statement M
+put-state-spec =
+    tie.close
+    (tie.spec
+    returns
+    cast-t8
+    cast-t9
+    cast-t10
+    rank-of-requires
+    cast-t12
+    slice-aggregate-put-numbers
+    put-numbers-requires
+    slice-aggregate-put-numbers-2
+    put-numbers-requires-2
+    same-length
+    returns-2)

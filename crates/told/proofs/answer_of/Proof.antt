@@ -1,0 +1,27 @@
+-- `told::answer_of` meets its contract.
+use mathlib.Core.Path.{refl}
+use mathlib.Core.Path.{refl}
+use Rattle.told.specs.Told.{answer}
+use borrow.Author.Needs.{needs}
+use Rattle.told.proofs.answer_of.Statement.{statement}
+use Rattle.told.proofs.answer_of.Tie as tie
+use Rattle.told.proofs.answer_of.Reads as reads
+use Rattle.told.proofs.answer_of.Lts as lts
+
+-- src/lib.rt:28:5
+mul-result : tie.Need-mul-result
+mul-result c = search needs
+
+-- src/lib.rt:28:5
+add-result : tie.Need-add-result
+add-result c = search needs
+
+-- src/lib.rt:25:1
+-- fill: f5840508
+returns : tie.Need-returns
+unfolding answer
+returns c =
+    refl
+
+pub answer-of-spec : {M : Type 1} → statement M
+answer-of-spec = tie.close (tie.spec mul-result add-result returns)

@@ -1,0 +1,89 @@
+-- `told::tell_calls` meets its contract.
+use mathlib.Core.Path.{_∙_, sym, ap}
+use mathlib.Core.List.{List, [], _∷_}
+use native.Mathlib.Omega.{arith}
+use mathlib.Core.Path.{_≡_}
+use Prim.Native.Nat.{ℕ}
+use borrow.Author.Tests.{lt-ltb, le-ltb}
+use lib.ListN.{length, length-map}
+use Rattle.stores.proofs.Room.{filled-short}
+use Rattle.stores.specs.Stores.{filled}
+use Rattle.told.proofs.Room.{filled-both}
+use borrow.Author.Needs.{needs}
+use Rattle.told.proofs.tell_calls.Statement.{statement}
+use Rattle.told.proofs.tell_calls.Tie as tie
+use Rattle.told.proofs.tell_calls.Reads as reads
+use Rattle.told.proofs.tell_calls.Lts as lts
+use Rattle.told.proofs.answer_of.Reads as answer-of-reads
+use Rattle.told.proofs.put_numbers.Reads as put-numbers-reads
+
+-- src/lib.rt:179:9
+answer-of-requires : tie.Need-answer-of-requires
+answer-of-requires c κs = search needs
+
+-- src/lib.rt:179:9
+returns : tie.Need-returns
+returns c =
+    let q = c .before .if1 .taken in
+    let k : length (c .before .before .before .args .calls .counts) ≡ 65 = rw length-map at (c .before .before .before .good .1 .0 .1 .1 .1 .0 .1 .0 .1) in
+    (rw (lt-ltb _ _ q) (c .answer-of .ensures), sym (filled-short _ 0 _ (omega (arith, k))))
+
+-- src/lib.rt:181:18
+cast-t8 : tie.Need-cast-t8
+cast-t8 c = search needs
+
+-- src/lib.rt:181:39
+cast-t9 : tie.Need-cast-t9
+cast-t9 c = search needs
+
+-- src/lib.rt:183:25
+slice-aggregate-put-numbers : tie.Need-slice-aggregate-put-numbers
+slice-aggregate-put-numbers c = search needs
+
+-- src/lib.rt:183:5
+put-numbers-requires : tie.Need-put-numbers-requires
+put-numbers-requires c κs = search needs
+
+-- src/lib.rt:184:25
+slice-aggregate-put-numbers-2 : tie.Need-slice-aggregate-put-numbers-2
+slice-aggregate-put-numbers-2 c = search needs
+
+-- src/lib.rt:184:5
+put-numbers-requires-2 : tie.Need-put-numbers-requires-2
+put-numbers-requires-2 c κs = search needs
+
+-- src/lib.rt:185:5
+answer-of-requires-2 : tie.Need-answer-of-requires-2
+answer-of-requires-2 c κs = search needs
+
+-- src/lib.rt:174:1
+same-length : tie.Need-same-length
+same-length c = search needs
+
+-- src/lib.rt:174:1
+returns-2 : tie.Need-returns-2
+returns-2 c =
+    let q = c .before .before .before .before .before .before .before .before .before .before .before .before .before .before .if1 .left in
+    let a = c .before .before .before .before .before .before .before .before .before .before .before .before .before .before .before .before .args in
+    let k : length (a .calls .counts) ≡ 65 = rw length-map at (c .before .before .before .before .before .before .before .before .before .before .before .before .before .before .before .before .good .1 .0 .1 .1 .1 .0 .1 .0 .1) in
+    let first : List ℕ = a .site .alleles ∷ a .site .people ∷ a .calls .without ∷ [] in
+    let both = filled-both (a .out .now) first (a .calls .counts) (omega (arith, q, k)) in (
+      rw (le-ltb _ _ q) (c .answer-of2 .ensures),
+      c .before .before .before .put-numbers2 .ensures ∙ ap (λ (o : List ℕ). filled o 3 (a .calls .counts)) (c .before .before .before .before .before .before .before .before .put-numbers .ensures) ∙ both,
+    )
+
+pub tell-calls-spec : {M : Type 1} → statement M
+tell-calls-spec =
+    tie.close
+    (tie.spec
+    answer-of-requires
+    returns
+    cast-t8
+    cast-t9
+    slice-aggregate-put-numbers
+    put-numbers-requires
+    slice-aggregate-put-numbers-2
+    put-numbers-requires-2
+    answer-of-requires-2
+    same-length
+    returns-2)

@@ -1,0 +1,35 @@
+-- `told::tell_field` meets its contract.
+use mathlib.Core.Path.{_∙_, ap}
+use Rattle.told.specs.Told.{toldAnswer}
+use borrow.Author.Needs.{needs}
+use Rattle.told.proofs.tell_field.Statement.{statement}
+use Rattle.told.proofs.tell_field.Tie as tie
+use Rattle.told.proofs.tell_field.Reads as reads
+use Rattle.told.proofs.tell_field.Lts as lts
+use Rattle.told.proofs.distance.Reads as distance-reads
+use Rattle.told.proofs.tell.Reads as tell-reads
+
+-- src/lib.rt:116:15
+slice-aggregate-tell : tie.Need-slice-aggregate-tell
+slice-aggregate-tell c = search needs
+
+-- src/lib.rt:116:25
+distance-requires : tie.Need-distance-requires
+distance-requires c κs = search needs
+
+-- src/lib.rt:116:5
+tell-requires : tie.Need-tell-requires
+tell-requires c κs = search needs
+
+-- src/lib.rt:105:1
+same-length : tie.Need-same-length
+same-length c = search needs
+
+-- src/lib.rt:105:1
+returns : tie.Need-returns
+returns c =
+    (c .before .before .tell .ensures .0 ∙ ap (toldAnswer _ _) (c .before .before .before .distance .ensures), c .before .before .tell .ensures .1)
+
+pub tell-field-spec : {M : Type 1} → statement M
+tell-field-spec =
+    tie.close (tie.spec slice-aggregate-tell distance-requires tell-requires same-length returns)
