@@ -1,3 +1,4 @@
+pub mod Answers
 pub mod Building
 pub mod Choosing
 pub mod Cut
