@@ -1,0 +1,277 @@
+/*
+ * Sikalumdo for C and C++: reads one uncompressed BCF2 record at a time, fetches its values, walks its INFO pairs,
+ * tallies its genotypes, chooses people, and builds a record turn by turn. Link libc_api.a.
+ *
+ *     uint64_t site[SIKALUMDO_SITE_NUMBERS];
+ *     uint64_t answer = sikalumdo_read(bytes, count, 4, 1, 2, 3, site, SIKALUMDO_SITE_NUMBERS);
+ *     if (sikalumdo_number(answer) != 0)
+ *         printf("refused: %u at byte %u\n", (unsigned)sikalumdo_number(answer), (unsigned)sikalumdo_low(answer));
+ *     else
+ *         printf("%u bytes, %u alleles\n", (unsigned)sikalumdo_low(answer), (unsigned)site[SIKALUMDO_SITE_ALLELES]);
+ *
+ * THE FACTS. Four numbers of the file's header go with a record: `strings`, the size of its dictionary; `contigs`;
+ * `people`; and `gt`, the dictionary offset of GT (one that no key meets, as 0xFFFFFFFF, says that there is no GT).
+ *
+ * AN ANSWER is one 64-bit number. Its high half is the number of a refusal, 0 for none; its low half is the
+ * refusal's place or, with number 0, a length. `sikalumdo_number` and `sikalumdo_low` take it apart. A refusal
+ * writes nothing: not to an `out`, not to a buffer, not to a state. Places are byte offsets from the record's start.
+ *
+ *     No.  Given when                                                              Place
+ *      1   fewer bytes than the record's length, or than 8                         0
+ *      2   the record is, or would be, over 16,777,216 bytes                       0
+ *      3   a value needs bytes past its block, or l_shared is below 24             end of block
+ *      4   a block has bytes over                                                  first of them
+ *      5   a fixed field or a count breaks its rule or, in building, would pass
+ *          its most                                                                first byte of its four
+ *      6   a type that is unused or wrong there; a key or true length that is
+ *          not one integer                                                         its descriptor
+ *      7   true length below 15 (marks too); empty allele; a builder's list that
+ *          is not people x length                                                  the descriptor (of the true
+ *                                                                                  length, if that)
+ *      8   a key or filter outside the dictionary                                  the element
+ *      9   reserved value, element after an end of vector, bad allele byte         the element
+ *     10   GT code negative (not a mark), or allele too high                       the element
+ *     11   filter or FORMAT key repeated                                           the element of the second
+ *     12   builder turn out of order                                               0
+ *     13   lent buffer too short for what would be written                         0
+ *     14   choice not ascending or out of range                                    0
+ *     15   tally of more than 64 alleles                                           0
+ *     16   no field, pair or element of that number                                0
+ *
+ * READING'S REFUSALS, which each function that takes the facts of a record gives first: under 8 bytes (1), 2, 1,
+ * l_shared below 24 (3), and then 3 to 11 at the first byte that breaks a rule, each block ending with 4. In
+ * building all places are 0.
+ *
+ * WHAT A CALLER OWES. The library is proved for callers that keep to this, and nothing else checks it:
+ *   - A pointer and its length, counted in elements, name memory that is there: so many elements, aligned for their
+ *     type. For an empty slice, too, the pointer is not null.
+ *   - What a call writes to (`out`, `buf`, `state`) overlaps nothing else that is lent to that call.
+ *   - While a call runs, no other thread writes to what is lent, or reads what the call writes to.
+ * Calls share nothing: any number of threads may call at once on memory of their own. Nothing is allocated or kept.
+ */
+#ifndef SIKALUMDO_H
+#define SIKALUMDO_H
+
+#include <stddef.h>
+#include <stdint.h>
+
+#ifdef __cplusplus
+extern "C" {
+#endif
+
+/* How many numbers a caller lends for what is told, and for a build's state. */
+#define SIKALUMDO_SITE_NUMBERS 13
+#define SIKALUMDO_FIELD_NUMBERS 5
+#define SIKALUMDO_TALLY_NUMBERS 68
+#define SIKALUMDO_STATE_NUMBERS 266
+
+/* No record is longer, in bytes. */
+#define SIKALUMDO_MOST_BYTES 16777216
+
+/* Where each number stands in what sikalumdo_read tells. */
+#define SIKALUMDO_SITE_LENGTH 0    /* bytes of the record */
+#define SIKALUMDO_SITE_BORDER 1    /* place where the genotype block begins */
+#define SIKALUMDO_SITE_CHROM 2     /* CHROM, POS, rlen: the 32 bits of a signed number; cast by way of uint32_t */
+#define SIKALUMDO_SITE_POS 3       /* zero-based; VCF's position is one more; -1 stands as 4294967295 */
+#define SIKALUMDO_SITE_RLEN 4
+#define SIKALUMDO_SITE_QUAL 5      /* 32 float bits; SIKALUMDO_FLOAT_MISSING for none */
+#define SIKALUMDO_SITE_ALLELES 6   /* REF is one of them */
+#define SIKALUMDO_SITE_INFOS 7     /* INFO fields */
+#define SIKALUMDO_SITE_FORMATS 8   /* FORMAT fields */
+#define SIKALUMDO_SITE_PEOPLE 9
+#define SIKALUMDO_SITE_GT_TYPE 10  /* 1, 2 or 3; 0 where the record has no GT */
+#define SIKALUMDO_SITE_GT_LENGTH 11 /* elements for each person */
+#define SIKALUMDO_SITE_GT_PLACE 12 /* place of the first element */
+
+/* Where each number stands in what sikalumdo_fetch and sikalumdo_pair tell. */
+#define SIKALUMDO_FIELD_KEY 0      /* dictionary offset; 0 for ID, alleles and FILTER, which have none */
+#define SIKALUMDO_FIELD_TYPE 1
+#define SIKALUMDO_FIELD_LENGTH 2   /* elements; of a FORMAT value, elements for each person */
+#define SIKALUMDO_FIELD_PLACE 3    /* place of the first element; just after the descriptor for length 0 */
+#define SIKALUMDO_FIELD_STOP 4     /* place after the last element; of a pair, the next pair's place */
+
+/* Where each number stands in what sikalumdo_tally tells. */
+#define SIKALUMDO_TALLY_ALLELES 0
+#define SIKALUMDO_TALLY_PEOPLE 1
+#define SIKALUMDO_TALLY_WITHOUT 2  /* people without a genotype */
+#define SIKALUMDO_TALLY_MISSING 3  /* missing alleles */
+#define SIKALUMDO_TALLY_CALLS 4    /* calls of allele 0; those of allele 63 stand at 67 */
+
+/* The kinds of fields. */
+#define SIKALUMDO_KIND_ID 0
+#define SIKALUMDO_KIND_ALLELE 1
+#define SIKALUMDO_KIND_FILTER 2
+#define SIKALUMDO_KIND_INFO 3
+#define SIKALUMDO_KIND_FORMAT 4
+
+/* The types of elements. */
+#define SIKALUMDO_TYPE_INT8 1
+#define SIKALUMDO_TYPE_INT16 2
+#define SIKALUMDO_TYPE_INT32 3
+#define SIKALUMDO_TYPE_FLOAT 5
+#define SIKALUMDO_TYPE_TEXT 7
+
+/* The marks as 32 bits: those of integers of any width (INT32_MIN and INT32_MIN + 1), and those of floats. In text a
+ * zero byte ends the vector. */
+#define SIKALUMDO_MISSING UINT32_C(0x80000000)
+#define SIKALUMDO_END_OF_VECTOR UINT32_C(0x80000001)
+#define SIKALUMDO_FLOAT_MISSING UINT32_C(0x7F800001)
+#define SIKALUMDO_FLOAT_END_OF_VECTOR UINT32_C(0x7F800002)
+
+/* The refusal's number of an answer; 0 where nothing was refused. */
+static inline uint32_t sikalumdo_number(uint64_t answer) { return (uint32_t)(answer >> 32); }
+
+/* The refusal's place of an answer or, with number 0, what the function says: a length, a place or 32 bits. */
+static inline uint32_t sikalumdo_low(uint64_t answer) { return (uint32_t)(answer & UINT32_C(0xFFFFFFFF)); }
+
+/*
+ * Reads the record at the start of `s`; bytes after it are the next one's.
+ * Answers the record's length in bytes. Refusals: reading's; then 13 where out_len is below SIKALUMDO_SITE_NUMBERS.
+ * Writes SIKALUMDO_SITE_NUMBERS numbers at the start of `out`.
+ */
+uint64_t sikalumdo_read(const uint8_t *s, size_t s_len, uint32_t strings, uint32_t contigs, uint32_t people,
+                        uint32_t gt, uint64_t *out, size_t out_len);
+
+/*
+ * Fetches the field of a kind and a number, from 0, of the record at the start of `s`. ID and FILTER have number 0
+ * only; a FORMAT value is all people's elements, each person's vector in turn.
+ * Answers the bytes of its elements, which stand in `s` itself from its place on. Refusals: reading's; 16 where
+ * there is no such field, or no such kind; then 13 where out_len is below SIKALUMDO_FIELD_NUMBERS.
+ * Writes SIKALUMDO_FIELD_NUMBERS numbers at the start of `out`.
+ */
+uint64_t sikalumdo_fetch(const uint8_t *s, size_t s_len, uint32_t strings, uint32_t contigs, uint32_t people,
+                         uint32_t gt, uint32_t kind, uint32_t number, uint64_t *out, size_t out_len);
+
+/*
+ * Shows an element, from 0, of a fetched part: `part` points at the field's place and has the bytes that the fetch
+ * or the pair answered; `code` is the field's type.
+ * Answers the element's 32 bits: an integer of any width as a signed 32-bit number, with the marks above; a float's
+ * bits; a byte of text. Refusals: 16 past the last element, or where the type is none of the five.
+ * Writes nothing.
+ */
+uint64_t sikalumdo_shown(const uint8_t *part, size_t part_len, uint8_t code, size_t index);
+
+/*
+ * Tallies the genotypes of the record at the start of `s`.
+ * Answers the record's length in bytes. Refusals: reading's; 15 for more than 64 alleles; then 13 where out_len is
+ * below SIKALUMDO_TALLY_NUMBERS.
+ * Writes SIKALUMDO_TALLY_NUMBERS numbers at the start of `out`; alleles that the record has not have 0 calls.
+ */
+uint64_t sikalumdo_tally(const uint8_t *s, size_t s_len, uint32_t strings, uint32_t contigs, uint32_t people,
+                         uint32_t gt, uint64_t *out, size_t out_len);
+
+/*
+ * Writes the record of some of the people of the record at the start of `s`. `choice` lists their numbers, from 0,
+ * strictly ascending; it may be empty, and then the FORMAT fields go, too.
+ * Answers the chosen record's length in bytes, never more than that of the record. Refusals: reading's; 14 for a
+ * choice that does not ascend or names nobody; then 13 where `buf` is shorter than the chosen record.
+ * Writes the chosen record at the start of `buf`; bytes after it stay.
+ */
+uint64_t sikalumdo_choose(const uint8_t *s, size_t s_len, uint32_t strings, uint32_t contigs, uint32_t people,
+                          uint32_t gt, const uint32_t *choice, size_t choice_len, uint8_t *buf, size_t buf_len);
+
+/*
+ * Opens a walk over the INFO pairs of the record at the start of `s`.
+ * Answers the place of the first pair; where there is none, sikalumdo_pair says so. Refusals: reading's.
+ * Writes nothing.
+ */
+uint64_t sikalumdo_first_pair(const uint8_t *s, size_t s_len, uint32_t strings, uint32_t contigs, uint32_t people,
+                              uint32_t gt);
+
+/*
+ * Gives the INFO pair at the place `at`, which sikalumdo_first_pair answered or the pair before told as its stop.
+ * The record is not read again: its values are not judged, and at another place there may be a pair by chance.
+ * Answers the bytes of the value's elements. Refusals: 16 at the end of the pairs, or where `s` has not the whole
+ * site block; then 13 where out_len is below SIKALUMDO_FIELD_NUMBERS.
+ * Writes SIKALUMDO_FIELD_NUMBERS numbers at the start of `out`, the last of them the next pair's place.
+ */
+uint64_t sikalumdo_pair(const uint8_t *s, size_t s_len, size_t at, uint64_t *out, size_t out_len);
+
+/*
+ * BUILDING. A build is a state and a buffer, both the caller's and both left alone between the turns: fresh, begin,
+ * ID, one or more alleles, FILTER, INFO fields (or none), FORMAT fields (or none), end. Each turn appends to `buf`
+ * and answers the bytes written so far; a refused one changes neither, and may be taken again in another form. A
+ * turn refuses, in this order, with 12, 5, 8, 11, 6, 7, then 9 or 10 by element, 2, 13; below, each turn's own
+ * ones. A state of fewer than SIKALUMDO_STATE_NUMBERS numbers takes no turn (12). Integers are written in the
+ * narrowest type that holds all of a value's elements.
+ */
+
+/*
+ * Makes a fresh state: the one that begin is taken in.
+ * Answers 0. Refusals: 13 where state_len is below SIKALUMDO_STATE_NUMBERS.
+ * Writes SIKALUMDO_STATE_NUMBERS numbers at the start of `state`.
+ */
+uint64_t sikalumdo_fresh(uint32_t *state, size_t state_len);
+
+/*
+ * Begins a record, with the facts that all its turns keep to; `pos` is zero-based, `qual` float bits.
+ * Refusals: 12; 5 where CHROM, POS, rlen or QUAL breaks its rule, or for over 16,777,215 people; 13.
+ * Writes the record's first 32 bytes, with both block lengths and both count fields 0 until end.
+ */
+uint64_t sikalumdo_begin(uint32_t *state, size_t state_len, uint8_t *buf, size_t buf_len, uint32_t strings,
+                         uint32_t contigs, uint32_t people, uint32_t gt, int32_t chrom, int32_t pos, int32_t rlen,
+                         uint32_t qual);
+
+/* Gives the ID; no bytes for none. Refusals: 12; 9 for a byte after a zero byte; 2; 13. Appends the value. */
+uint64_t sikalumdo_id(uint32_t *state, size_t state_len, uint8_t *buf, size_t buf_len, const uint8_t *text,
+                      size_t text_len);
+
+/*
+ * Gives one allele, REF first. Refusals: 12; 5 for the 65,536th; 7 for no bytes; 9 for a byte outside 21 to 7E
+ * (hexadecimal); 2; 13. Appends the value.
+ */
+uint64_t sikalumdo_allele(uint32_t *state, size_t state_len, uint8_t *buf, size_t buf_len, const uint8_t *text,
+                          size_t text_len);
+
+/*
+ * Gives FILTER as dictionary offsets; none where no filter was applied. Refusals: 12; by element 8 outside the
+ * dictionary, then 11 for one given before; 2; 13. Appends the value.
+ */
+uint64_t sikalumdo_filter(uint32_t *state, size_t state_len, uint8_t *buf, size_t buf_len, const int32_t *offsets,
+                          size_t offsets_len);
+
+/*
+ * Gives an INFO field of integers, marks as INT32_MIN (missing) and INT32_MIN + 1 (end of vector); no values for a
+ * missing one. A key may come twice. Refusals: 12; 5 for the 65,536th; 8 for the key; 9 for a reserved value, or one
+ * after an end of vector; 2; 13. Appends the key and the value.
+ */
+uint64_t sikalumdo_info_integers(uint32_t *state, size_t state_len, uint8_t *buf, size_t buf_len, int32_t key,
+                                 const int32_t *values, size_t values_len);
+
+/* Gives an INFO field of floats by their bits. Refusals and what is written: as for integers. */
+uint64_t sikalumdo_info_floats(uint32_t *state, size_t state_len, uint8_t *buf, size_t buf_len, int32_t key,
+                               const uint32_t *bits, size_t bits_len);
+
+/* Gives an INFO field of text. Refusals and what is written: as for integers; 9 for a byte after a zero byte. */
+uint64_t sikalumdo_info_text(uint32_t *state, size_t state_len, uint8_t *buf, size_t buf_len, int32_t key,
+                             const uint8_t *part, size_t part_len);
+
+/*
+ * Gives a FORMAT field of integers, `len` for each person, each person's vector in turn; GT as its codes.
+ * Refusals: 12; 5 without people or for the 256th field; 8 for the key; 11 for a key given before; 7 where
+ * values_len is not people x len; by element 9 for a reserved value or one after that person's end of vector, then,
+ * in GT, 10 for a negative code or an allele too high; 2; 13. Appends the key and the value.
+ */
+uint64_t sikalumdo_format_integers(uint32_t *state, size_t state_len, uint8_t *buf, size_t buf_len, int32_t key,
+                                   uint32_t len, const int32_t *values, size_t values_len);
+
+/* Gives a FORMAT field of floats by their bits. Refusals: as for integers, with 6 for GT between 11 and 7; no 10. */
+uint64_t sikalumdo_format_floats(uint32_t *state, size_t state_len, uint8_t *buf, size_t buf_len, int32_t key,
+                                 uint32_t len, const uint32_t *bits, size_t bits_len);
+
+/* Gives a FORMAT field of text, `len` bytes for each person. Refusals: as for floats. */
+uint64_t sikalumdo_format_text(uint32_t *state, size_t state_len, uint8_t *buf, size_t buf_len, int32_t key,
+                               uint32_t len, const uint8_t *part, size_t part_len);
+
+/*
+ * Ends the record; no turn is taken after it.
+ * Answers the record's length in bytes. Refusals: 12; 13 where `buf` is shorter than 28 bytes.
+ * Writes the four fields that begin left 0, and nothing else.
+ */
+uint64_t sikalumdo_end(uint32_t *state, size_t state_len, uint8_t *buf, size_t buf_len);
+
+#ifdef __cplusplus
+}
+#endif
+
+#endif
