@@ -79,7 +79,7 @@ extern "C" {
 #define SIKALUMDO_SITE_INFOS 7     /* INFO fields */
 #define SIKALUMDO_SITE_FORMATS 8   /* FORMAT fields */
 #define SIKALUMDO_SITE_PEOPLE 9
-#define SIKALUMDO_SITE_GT_TYPE 10  /* 1, 2 or 3; 0 where the record has no GT */
+#define SIKALUMDO_SITE_GT_TYPE 10  /* 1, 2 or 3; where the record has no GT, this and the next two are 0 */
 #define SIKALUMDO_SITE_GT_LENGTH 11 /* elements for each person */
 #define SIKALUMDO_SITE_GT_PLACE 12 /* place of the first element */
 

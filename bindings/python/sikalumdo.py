@@ -64,12 +64,14 @@ class Refusal(Exception):
     """
 
     def __init__(self, number, place):
+        """A refusal of a number, a key of REASONS, at a place in bytes."""
         self.number = number
         self.place = place
         self.text = REASONS[number]
         super().__init__(number, place)
 
     def __str__(self):
+        """Number, place and text in one line."""
         return f"{self.number} at byte {self.place}: {self.text}"
 
 
@@ -86,7 +88,7 @@ Site.__doc__ = """What reading answers, all ints.
 
 length: bytes of the record; border: place of the genotype block; chrom: contig's number; pos: zero-based position, one
 less than VCF's; rlen: bases; qual: 32 float bits, FLOAT_MISSING for none; alleles (with REF), infos, formats, people:
-counts; gt_type: GT's type, 0 where there is none; gt_length: elements for each person; gt_place: place of the first.
+counts; gt_type: GT's type; gt_length: elements for each person; gt_place: place of the first; all three 0 without GT.
 """
 
 Tally = collections.namedtuple("Tally", "length people without missing calls")
@@ -110,7 +112,7 @@ class Field(collections.namedtuple("Field", "key type length place stop part")):
     def values(self):
         """The elements as a list of ints: signed integers with MISSING and END_OF_VECTOR, floats as bits, text as bytes.
 
-        All people's elements of a FORMAT value, each person's vector in turn.
+        All people's elements of a FORMAT value, each person's vector in turn. The library is called for each element.
         """
         found = []
         for index in itertools.count():
@@ -183,6 +185,7 @@ class Builder:
     """
 
     def __init__(self):
+        """A fresh build, for which begin is the first turn."""
         self._state = (ctypes.c_uint32 * 266)()
         self._buffer = bytearray(256)
         self._written = _accepted(_library.sikalumdo_fresh(self._state, len(self._state)))

@@ -62,7 +62,7 @@ class Reading(Case):
         self.assertEqual(sikalumdo.read(RECORD[:12] + b"\xff" * 4 + RECORD[16:], FACTS).pos, -1)
 
     def test_no_gt(self):
-        self.assertEqual(sikalumdo.read(RECORD, FACTS._replace(gt=0xFFFFFFFF)).gt_type, 0)
+        self.assertEqual(sikalumdo.read(RECORD, FACTS._replace(gt=0xFFFFFFFF))[-3:], (0, 0, 0))
 
     def test_other_objects(self):
         for record in (bytearray(RECORD), memoryview(RECORD), RECORD + b"next"):

@@ -77,7 +77,7 @@ static void test_reading(void)
     CHECK(untouched(out + SIKALUMDO_SITE_NUMBERS, sizeof out[0]));
     CHECK(is(sikalumdo_read(record, RECORD, STRINGS, CONTIGS, PEOPLE, 0xFFFFFFFF, out, SIKALUMDO_SITE_NUMBERS), 0,
              RECORD));
-    CHECK(out[SIKALUMDO_SITE_GT_TYPE] == 0);
+    CHECK(out[SIKALUMDO_SITE_GT_TYPE] == 0 && out[SIKALUMDO_SITE_GT_LENGTH] == 0 && out[SIKALUMDO_SITE_GT_PLACE] == 0);
 }
 
 static void test_fetching(void)
