@@ -1,0 +1,152 @@
+//! The repository's sample record of two people, through every function of the crate.
+
+use sikalumdo::{choose, fetch, pair_at, pairs, read, shown, tally, Builder, Facts, Kind, Refusal};
+
+const PATTERN: u8 = 0xA5;
+
+/// The facts and the one record of the sample file.
+fn sample() -> (Facts, Vec<u8>) {
+    let file = concat!(env!("CARGO_MANIFEST_DIR"), "/../../samples/two-people.hex");
+    let text = std::fs::read_to_string(file).expect("the sample file");
+    let (first, record) = text.split_once('\n').expect("two lines");
+    let fact = |at| u32::from_str_radix(&first[at..at + 8], 16).expect("eight digits");
+    let facts = Facts { strings: fact(0), contigs: fact(8), people: fact(16), gt: fact(24) };
+    (facts, bytes(record.trim_end()))
+}
+
+fn bytes(digits: &str) -> Vec<u8> {
+    let byte = |at| u8::from_str_radix(&digits[at..at + 2], 16).expect("two digits");
+    (0..digits.len()).step_by(2).map(byte).collect()
+}
+
+/// The sample's turns, up to the number given.
+fn build(buf: &mut [u8], turns: usize) -> Result<(Builder, u32), Refusal> {
+    let (facts, mut builder, mut written) = (sample().0, Builder::fresh(), 0);
+    for turn in 0..turns {
+        written = take(&mut builder, buf, &facts, turn)?;
+    }
+    Ok((builder, written))
+}
+
+fn take(builder: &mut Builder, buf: &mut [u8], facts: &Facts, turn: usize) -> Result<u32, Refusal> {
+    match turn {
+        0 => builder.begin(buf, facts, 0, 14_369, 1, 0x41E8_0000),
+        1 => builder.id(buf, b""),
+        2 => builder.allele(buf, b"G"),
+        3 => builder.allele(buf, b"A"),
+        4 => builder.filter(buf, &[0]),
+        5 => builder.info_integers(buf, 2, &[14]),
+        6 => builder.format_integers(buf, 3, 2, &[2, 3, 4, i32::MIN + 1]),
+        _ => builder.end(buf),
+    }
+}
+
+const TURNS: usize = 8;
+
+#[test]
+fn the_sample_is_read() {
+    let (facts, mut record) = sample();
+    let site = read(&record, &facts).expect("an accepted record");
+    assert_eq!((site.length, site.border), (50, 43));
+    assert_eq!((site.chrom, site.pos, site.rlen, site.qual_bits), (0, 14_369, 1, 0x41E8_0000));
+    assert_eq!((site.alleles, site.infos, site.formats, site.people), (2, 1, 1, 2));
+    assert_eq!((site.gt_type, site.gt_len, site.gt_place), (1, 2, 46));
+    record.push(PATTERN);
+    assert_eq!(read(&record, &facts), Ok(site));
+}
+
+#[test]
+fn values_are_fetched_and_shown() {
+    let (facts, record) = sample();
+    let reference = fetch(&record, &facts, Kind::ALLELE, 0).expect("REF");
+    assert_eq!(reference.elements, b"G");
+    let gt = fetch(&record, &facts, Kind::FORMAT, 0).expect("GT");
+    assert_eq!((gt.key, gt.code, gt.len, gt.place, gt.stop), (3, 1, 2, 46, 50));
+    assert_eq!(gt.elements.as_ptr(), record[46..].as_ptr());
+    let codes: Vec<_> = (0..5).map(|index| shown(gt.elements, gt.code, index)).collect();
+    assert_eq!(codes, [Some(2), Some(3), Some(4), Some(0x8000_0001), None]);
+    for (kind, number) in [(Kind::ID, 1), (Kind::INFO, 1), (Kind(5), 0)] {
+        assert_eq!(fetch(&record, &facts, kind, number), Err(Refusal { number: 16, place: 0 }));
+    }
+}
+
+#[test]
+fn pairs_are_walked() {
+    let (facts, record) = sample();
+    let mut walker = pairs(&record, &facts).expect("an accepted record");
+    let pair = walker.next().expect("one pair");
+    assert_eq!((pair.key, pair.code, pair.len, pair.place, pair.next), (2, 1, 1, 42, 43));
+    assert_eq!(pair.elements, [14]);
+    assert_eq!((walker.next(), walker.next()), (None, None));
+    assert_eq!(pair_at(&record, 39), Some(pair));
+    assert_eq!(pair_at(&record[..42], 39), None);
+    assert_eq!(pair_at(&[], usize::MAX), None);
+}
+
+#[test]
+fn genotypes_are_tallied() {
+    let (facts, record) = sample();
+    let tally = tally(&record, &facts).expect("a tally");
+    assert_eq!((tally.alleles, tally.people, tally.without, tally.missing), (2, 2, 0, 0));
+    assert_eq!((&tally.calls[..2], tally.calls.iter().sum::<u64>()), (&[2, 1][..], 3));
+}
+
+#[test]
+fn people_are_chosen() {
+    let (facts, record) = sample();
+    let mut buf = [PATTERN; 60];
+    assert_eq!(choose(&record, &facts, &[1], &mut buf), Ok(48));
+    let mut wanted = record.clone();
+    (wanted[4], wanted[24]) = (5, 1);
+    wanted.drain(46..48);
+    assert_eq!((&buf[..48], &buf[48..]), (&wanted[..], &[PATTERN; 12][..]));
+    assert_eq!(choose(&record, &facts, &[], &mut buf), Ok(43));
+}
+
+#[test]
+fn a_refusal_writes_nothing() {
+    let (facts, record) = sample();
+    let refuse = |s: &[u8], choice: &[u32], room: usize| {
+        let mut buf = vec![PATTERN; room];
+        let refusal = choose(s, &facts, choice, &mut buf).expect_err("a refusal");
+        assert!(buf.iter().all(|&byte| byte == PATTERN));
+        refusal
+    };
+    assert_eq!(refuse(&record[..49], &[1], 60), Refusal { number: 1, place: 0 });
+    assert_eq!(refuse(&record, &[1, 1], 60), Refusal { number: 14, place: 0 });
+    assert_eq!(refuse(&record, &[2], 60), Refusal { number: 14, place: 0 });
+    assert_eq!(refuse(&record, &[1], 47), Refusal { number: 13, place: 0 });
+    let mut damaged = record.clone();
+    damaged[49] = 6;
+    assert_eq!(refuse(&damaged, &[1], 60), Refusal { number: 10, place: 49 });
+}
+
+#[test]
+fn the_sample_is_built_again() {
+    let (_, record) = sample();
+    let mut buf = [PATTERN; 60];
+    let (mut builder, written) = build(&mut buf, TURNS).expect("every turn");
+    assert_eq!((&buf[..written as usize], &buf[50..]), (&record[..], &[PATTERN; 10][..]));
+    assert_eq!(builder.end(&mut buf), Err(Refusal { number: 12, place: 0 }));
+}
+
+#[test]
+fn a_refused_turn_keeps_state_and_buffer() {
+    let facts = sample().0;
+    let mut buf = [PATTERN; 60];
+    for turns in 0..TURNS {
+        buf.fill(PATTERN);
+        let (builder, written) = build(&mut buf, turns).expect("the turns before");
+        let (mut again, before) = (builder.clone(), buf);
+        let room = if turns == 7 { 27 } else { written as usize };
+        assert_eq!(take(&mut again, &mut buf[..room], &facts, turns), Err(Refusal { number: 13, place: 0 }));
+        assert_eq!((&again, buf), (&builder, before));
+        assert!(take(&mut again, &mut buf, &facts, turns).is_ok());
+    }
+}
+
+#[test]
+fn a_refusal_says_what_it_is() {
+    let refusal = Refusal { number: 9, place: 47 };
+    assert!(refusal.to_string().starts_with("refusal 9 at 47: "));
+}
