@@ -1,0 +1,15 @@
+#!/usr/bin/env bash
+# Compares the proved library with the plain one over a million made inputs, or as the arguments say, and prints any difference.
+#
+#   tests/differential.sh                            # about 40 seconds on one core
+#   tests/differential.sh --seconds 600 --seed 7
+#
+# Its exit status is 1 if there is any difference.
+set -euo pipefail
+cd "$(dirname "$0")/.."
+# Other folders may hold the compiled library alone, without what compiles it.
+if [ -x tools/host ]; then tools/host c_api; fi
+export CARGO_TARGET_DIR=$PWD/target/cargo
+cargo build --quiet --release --offline --manifest-path tests/differential/Cargo.toml
+if [ $# -eq 0 ]; then set -- --inputs 1000000; fi
+exec "$CARGO_TARGET_DIR/release/differential" "$@"

@@ -1,0 +1,114 @@
+//! What was compared: how many calls of each function, what they answered, and each difference with the input that
+//! shows it.
+
+use std::collections::BTreeMap;
+use std::fmt::{self, Arguments, Debug, Display};
+
+/// An answer of either library, its refusal as number and place.
+pub type Answer<T> = Result<T, (u32, u32)>;
+
+/// Differences that are printed in full; the others are only counted.
+const PRINTED: u64 = 20;
+
+/// What one function answered: how often it accepted, and how often it gave each refusal.
+#[derive(Clone, Copy, Default)]
+struct Answers {
+    accepted: u64,
+    refused: [u64; 17],
+}
+
+pub struct Report {
+    seed: u64,
+    case: u64,
+    records: u64,
+    builds: u64,
+    functions: BTreeMap<&'static str, Answers>,
+    differences: u64,
+}
+
+impl Report {
+    pub fn new(seed: u64) -> Report {
+        Report { seed, case: 0, records: 0, builds: 0, functions: BTreeMap::new(), differences: 0 }
+    }
+
+    pub fn begin_case(&mut self, case: u64) {
+        self.case = case;
+    }
+
+    pub fn count_record(&mut self) {
+        self.records += 1;
+    }
+
+    pub fn count_build(&mut self) {
+        self.builds += 1;
+    }
+
+    pub fn inputs(&self) -> u64 {
+        self.records + self.builds
+    }
+
+    pub fn differences(&self) -> u64 {
+        self.differences
+    }
+
+    /// Compares what both libraries answered when a function was asked something about an input.
+    pub fn compare<T: PartialEq + Debug>(
+        &mut self,
+        input: &dyn Display,
+        function: &'static str,
+        asked: Arguments,
+        ours: &Answer<T>,
+        plain: &Answer<T>,
+    ) {
+        let answers = self.functions.entry(function).or_default();
+        match ours {
+            Ok(_) => answers.accepted += 1,
+            Err((number, _)) => answers.refused[(*number as usize).min(16)] += 1,
+        }
+        if ours != plain {
+            self.differ(input, format_args!("{function} {asked}: ours {ours:X?}, plain {plain:X?}"));
+        }
+    }
+
+    /// Compares two lent buffers over all their bytes.
+    pub fn compare_bytes(&mut self, input: &dyn Display, asked: Arguments, ours: &[u8], plain: &[u8]) {
+        if ours != plain {
+            let at = ours.iter().zip(plain).position(|(ours, plain)| ours != plain);
+            self.differ(input, format_args!("{asked}: bytes differ from {at:?}: ours {ours:02X?}, plain {plain:02X?}"));
+        }
+    }
+
+    /// Notes something that has to hold of an input and doesn't.
+    pub fn require(&mut self, input: &dyn Display, holds: bool, what: Arguments) {
+        if !holds {
+            self.differ(input, what);
+        }
+    }
+
+    pub fn differ(&mut self, input: &dyn Display, what: Arguments) {
+        self.differences += 1;
+        if self.differences <= PRINTED {
+            println!("difference at seed {}, case {}: {what}\n  {input}", self.seed, self.case);
+        }
+    }
+}
+
+impl Display for Report {
+    fn fmt(&self, form: &mut fmt::Formatter<'_>) -> fmt::Result {
+        writeln!(form, "{} inputs, {} records and {} builds", self.inputs(), self.records, self.builds)?;
+        let mut reached = [false; 17];
+        for (function, answers) in &self.functions {
+            let refused: u64 = answers.refused.iter().sum();
+            let (calls, accepted) = (answers.accepted + refused, answers.accepted);
+            write!(form, "{function}: {calls} calls, {accepted} accepted, refused")?;
+            for (number, times) in answers.refused.iter().enumerate().filter(|(_, &times)| times > 0) {
+                write!(form, " {number}:{times}")?;
+                reached[number] = true;
+            }
+            writeln!(form, "{}", if refused == 0 { " none" } else { "" })?;
+        }
+        let unreached: Vec<usize> = (1..=16).filter(|&number| !reached[number]).collect();
+        writeln!(form, "refusals never reached: {unreached:?}")?;
+        writeln!(form, "{} differences", self.differences)
+    }
+}
