@@ -261,7 +261,58 @@ fn vectors_at(
 }
 
 // The same, at once where all their elements are plain or missing.
-fn block_at(
+fn few_at(part: &[u8], code: u8, w: u8, most: u32, len: usize, from: usize, count: usize) -> Judged
+    requires { ⌜ (from + count * (len * w) ≤ length (now part)) × (w ≤ 4) × (w ≢ 3) × (w ≡ widthOf code) × (0 < w) ⌝ }
+    ensures { λ r. ⌜ r ≡ vectors most code w len count from (drop from (now (part .entry))) ⌝ }
+    ensures { λ r. ⌜ judgedInside (length (now (part .entry))) r ⌝ }
+{
+    if is_plain(part, code, most, from, count * len) {
+        return Judged::Sound;
+    }
+    vectors_at(part, code, w, most, len, from, count)
+}
+
+// How many vectors are judged together, of those that are left: so many where there are as many.
+fn together(left: usize, many: usize) -> usize
+    requires { ⌜ (0 < left) × (0 < many) ⌝ }
+    ensures { λ r. ⌜ (0 < r) × (r ≤ left) ⌝ }
+{
+    if left < many {
+        return left;
+    }
+    many
+}
+
+// The same, sixteen at a time: where an end of vector stands, only its neighbours are judged element by element.
+fn sixteens_at(
+    part: &[u8],
+    code: u8,
+    w: u8,
+    most: u32,
+    len: usize,
+    from: usize,
+    count: usize,
+) -> Judged
+    requires { ⌜ (from + count * (len * w) ≤ length (now part)) × (w ≤ 4) × (w ≢ 3) × (w ≡ widthOf code) × (0 < w) ⌝ }
+    ensures { λ r. ⌜ r ≡ vectors most code w len count from (drop from (now (part .entry))) ⌝ }
+    ensures { λ r. ⌜ judgedInside (length (now (part .entry))) r ⌝ }
+{
+    let mut left = count;
+    let mut at = from;
+    while 0 < left {
+        let k = together(left, 16);
+        let f = few_at(part, code, w, most, len, at, k);
+        let Judged::Sound = f else {
+            return f;
+        };
+        at += k * (len * w as usize);
+        left -= k;
+    }
+    Judged::Sound
+}
+
+// The same, at once where all their elements are plain or missing, else by sixteens.
+fn stretch_at(
     part: &[u8],
     code: u8,
     w: u8,
@@ -277,18 +328,18 @@ fn block_at(
     if is_plain(part, code, most, from, count * len) {
         return Judged::Sound;
     }
-    vectors_at(part, code, w, most, len, from, count)
+    sixteens_at(part, code, w, most, len, from, count)
 }
 
-// How many vectors are judged together, of those that are left.
-fn together(left: usize) -> usize
-    requires { ⌜ 0 < left ⌝ }
-    ensures { λ r. ⌜ (0 < r) × (r ≤ left) ⌝ }
+// How many vectors of `len` elements make a stretch: some thousand elements, so that a sweep over them is worth its beginning.
+fn stretch_of(len: usize) -> usize
+    ensures { λ r. ⌜ 0 < r ⌝ }
 {
-    if left < 16 {
-        return left;
+    let k = words::over(1024, len);
+    if k == 0 {
+        return 1;
     }
-    16
+    k
 }
 
 // The elements of a part that is vectors of `len` elements each; a plain one above `most` is refused with 10.
@@ -298,11 +349,12 @@ pub fn judge(part: &[u8], code: u8, len: usize, most: u32) -> Judged
 {
     let row = types::row_of(code);
     let w = row.width;
+    let many = stretch_of(len);
     let mut left = words::over(words::over(part.len(), w as usize), len);
     let mut at = 0;
     while 0 < left {
-        let k = together(left);
-        let j = block_at(part, code, w, most, len, at, k);
+        let k = together(left, many);
+        let j = stretch_at(part, code, w, most, len, at, k);
         let Judged::Sound = j else {
             return j;
         };

@@ -12,21 +12,25 @@ use Rattle.vectors.proofs.judge.Tie as tie
 use Rattle.vectors.proofs.judge.Reads as reads
 use Rattle.vectors.proofs.judge.Lts as lts
 use Rattle.types.proofs.row_of.Reads as row-of-reads
-use Rattle.vectors.proofs.block_at.Reads as block-at-reads
+use Rattle.vectors.proofs.stretch_at.Reads as stretch-at-reads
+use Rattle.vectors.proofs.stretch_of.Reads as stretch-of-reads
 use Rattle.vectors.proofs.together.Reads as together-reads
 use Rattle.words.proofs.over.Reads as over-reads
 
 abbrev Inv-loop : tie.InvT-loop
-Inv-loop part code len most w left₀ at₀ left at =
+Inv-loop part code len most w many left₀ at₀ left at =
     (judged most code len part ≡ vectors most code w len left at (drop at part)) × (at + left * (len * w) ≤ length part) × (left ≤ length part / w / len)
 
 abbrev μ-loop : tie.MeasureT-loop
-μ-loop part code len most w left₀ at₀ left at =
+μ-loop part code len most w many left₀ at₀ left at =
     left
 
 -- src/lib.rt:299:9
 row-of-requires : tie.Need-row-of-requires Inv-loop μ-loop
 row-of-requires c κs = search needs
+
+stretch-of-requires : tie.Need-stretch-of-requires Inv-loop μ-loop
+stretch-of-requires c κs = search needs
 
 -- src/lib.rt:301:56
 cast-over : tie.Need-cast-over Inv-loop μ-loop
@@ -44,19 +48,20 @@ over-requires-2 c κs = search needs
 loop-holds : tie.Need-loop-holds Inv-loop μ-loop
 unfolding judged
 loop-holds c = (
-  simp (← c .before .before .row-of .ensures .1 .0, ← c .before .over .ensures .0, ← c .over2 .ensures .0),
+  simp (← c .before .before .before .row-of .ensures .1 .0, ← c .before .over .ensures .0, ← c .over2 .ensures .0),
   vectors-fit _ _ _ _ _ (c .over2 .ensures .1) (c .before .over .ensures .1),
   simp (← c .before .over .ensures .0, ← c .over2 .ensures .0) (omega arith),
 )
 
 -- src/lib.rt:304:13
 together-requires : tie.Need-together-requires Inv-loop μ-loop
-together-requires c κs = search needs
+together-requires c κs =
+    (c .loop-test .taken, c .before .before .before .before .stretch-of .ensures)
 
 -- src/lib.rt:305:13
-block-at-requires : tie.Need-block-at-requires Inv-loop μ-loop
-block-at-requires c κs =
-    let w = c .before .before .before .before .before .row-of .ensures .1 in
+stretch-at-requires : tie.Need-stretch-at-requires Inv-loop μ-loop
+stretch-at-requires c κs =
+    let w = c .before .before .before .before .before .before .row-of .ensures .1 in
     let l = c .before .before .loop in
     (omega (arith, block-room _ _ _ _ _ (c .together .ensures .1) (l .inv .1)), w .1, w .2, w .0, some-width _ _ _ _ (c .before .loop-test .taken) (l .inv .2))
 
@@ -71,7 +76,7 @@ enum-told-2 c = search needs
 returns : tie.Need-returns Inv-loop μ-loop
 returns c =
     let l = c .before .before .before .before .before .loop in
-    let r = c .before .before .block-at .ensures in
+    let r = c .before .before .stretch-at .ensures in
     (rw (l .inv .0, vectors-block _ _ _ _ _ _ _ _ (c .before .before .before .together .ensures .1), ← r .0, c .enum-told2 .given .1), r .1)
 
 -- src/lib.rt:309:26
@@ -107,7 +112,7 @@ loop-again : tie.Need-loop-again Inv-loop μ-loop
 loop-again c =
     let l = c .before .before .before .before .before .loop in
     let h = c .before .before .before .together .ensures .1 in
-    (l .inv .0 ∙ rw (vectors-block _ _ _ _ _ _ _ _ h, ← c .before .before .block-at .ensures .0, c .enum-told .given .1), block-room _ _ _ _ _ h (l .inv .1), omega (arith, l .inv .2))
+    (l .inv .0 ∙ rw (vectors-block _ _ _ _ _ _ _ _ h, ← c .before .before .stretch-at .ensures .0, c .enum-told .given .1), block-room _ _ _ _ _ h (l .inv .1), omega (arith, l .inv .2))
 
 -- src/lib.rt:295:1
 returns-2 : tie.Need-returns-2 Inv-loop μ-loop
@@ -124,12 +129,13 @@ judge-spec =
     Inv-loop
     μ-loop
     row-of-requires
+    stretch-of-requires
     cast-over
     over-requires
     over-requires-2
     loop-holds
     together-requires
-    block-at-requires
+    stretch-at-requires
     enum-told
     enum-told-2
     returns

@@ -1,4 +1,4 @@
--- `vectors::block_at` meets its contract.
+-- `vectors::few_at` meets its contract.
 use mathlib.Core.Path.{sym}
 use Prim.Native.Nat.{_*_, _≤_}
 use native.Mathlib.Omega.{arith}
@@ -6,10 +6,10 @@ use native.Mathlib.Nat.{mul-assoc}
 use lib.ListN.{length}
 use Rattle.vectors.proofs.Plain.{elements-fit, vectors-on}
 use borrow.Author.Needs.{needs}
-use Rattle.vectors.proofs.block_at.Statement.{statement}
-use Rattle.vectors.proofs.block_at.Tie as tie
-use Rattle.vectors.proofs.block_at.Reads as reads
-use Rattle.vectors.proofs.block_at.Lts as lts
+use Rattle.vectors.proofs.few_at.Statement.{statement}
+use Rattle.vectors.proofs.few_at.Tie as tie
+use Rattle.vectors.proofs.few_at.Reads as reads
+use Rattle.vectors.proofs.few_at.Lts as lts
 use Rattle.vectors.proofs.is_plain.Reads as is-plain-reads
 use Rattle.vectors.proofs.vectors_at.Reads as vectors-at-reads
 
@@ -38,6 +38,6 @@ vectors-at-requires c κs = search needs
 returns-2 : tie.Need-returns-2
 returns-2 c = search needs
 
-pub block-at-spec : {M : Type 1} → statement M
-block-at-spec =
+pub few-at-spec : {M : Type 1} → statement M
+few-at-spec =
     tie.close (tie.spec mul-is-plain is-plain-requires returns vectors-at-requires returns-2)
