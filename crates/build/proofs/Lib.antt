@@ -1,4 +1,2 @@
-pub mod Fronts
+pub mod Answers
 pub mod Numbers
-pub mod Values
-pub mod Writing

@@ -1,4 +1,3 @@
 pub mod Turns
 pub mod Order
 pub mod Values
-pub mod Writing

@@ -6,17 +6,20 @@ use mathlib.Core.Bool.{Bool, true, false}
 use lib.Dec.{ltb, leb, eqb}
 use lib.ListN.{length, take, set, replicate}
 use lib.Seq.{sets}
-use Rattle.words.specs.Lists.{among}
 use Rattle.words.specs.Pick.{pick}
-use Rattle.words.specs.Words.{bytes, outside}
 use Rattle.vectors.specs.Sound.{mostOf}
-use Rattle.fixed.specs.Layout.{indivAt, chromAt, posAt, rlenAt, countsAt, peopleAt, qualAt, idAt, posWrong, rlenWrong, qualWrong}
+use Rattle.fixed.specs.Layout.{peopleAt, idAt}
 use Rattle.fixed.specs.declared.Facts.{Facts}
 use Rattle.genotypes.specs.Formats.{roleOf}
 use Rattle.record.specs.Shown.{Kind, integers, floats, text}
-use Rattle.given.specs.Given.{filtersNumber, alleleNumber}
-use Rattle.build.specs.Order.{firstOf, order, countNumber, reachNumber, turned, appended, afterwards}
-use Rattle.build.specs.Values.{givenAs, any, givenBytes, pairBytes, givenNumber}
+use Rattle.front.specs.Front.{fieldsFilled}
+unfoldable pub use Rattle.front.specs.Front.{fieldsNumber, frontBytes}
+use Rattle.append.specs.Append.{firstOf}
+use Rattle.append.specs.Values.{givenBytes, pairBytes}
+use Rattle.rules.specs.Rules.{wrongBegin, wrongId, wrongAllele, wrongFilter, wrongInfo, wrongFormat, wrongEnd, formatOrder}
+use Rattle.rules.specs.Values.{givenAs, any, givenNumber}
+unfoldable pub use Rattle.rules.specs.Rules.{keyNumber, peopleNumber, repeatNumber, gtNumber, listNumber, formatKey, formatShape}
+use Rattle.build.specs.Order.{rank, turned, appended, afterwards}
 use Rattle.build.specs.declared.Stage.{Stage}
 use Rattle.build.specs.declared.Stage.the-variants.{Fresh, Begun, Named, Alleles, Filtered, Infos, Formats, Ended}
 use Rattle.build.specs.declared.Builder.{Builder}
@@ -66,24 +69,9 @@ inGenotypes st key size =
       keys = set (st .keys) (st .formats) key;
     }
 
--- begin: 5 for a fixed field that breaks its rule, or more people than a record can hold
-unfoldable pub fieldsNumber : Facts → ℕ → ℕ → ℕ → ℕ → ℕ
-fieldsNumber f chrom pos rlen qual =
-    pick (outside (f .contigs) chrom) 5
-    (pick (posWrong pos) 5
-    (pick (rlenWrong rlen) 5
-    (pick (qualWrong qual) 5
-    (pick (ltb 16777215 (f .people)) 5
-    0))))
-
+-- begin: its fields, and room for the first bytes
 unfoldable pub beginNumber : Stage → ℕ → Facts → ℕ → ℕ → ℕ → ℕ → ℕ
-beginNumber stage room f chrom pos rlen qual =
-    firstOf (order 0 0 stage) (firstOf (fieldsNumber f chrom pos rlen qual) (reachNumber room idAt))
-
--- the first 32 bytes, with both block lengths and both count fields 0
-unfoldable pub frontBytes : ℕ → ℕ → ℕ → ℕ → List ℕ
-frontBytes chrom pos rlen qual =
-    sets (sets (sets (sets (replicate idAt 0) chromAt (bytes 4 chrom)) posAt (bytes 4 pos)) rlenAt (bytes 4 rlen)) qualAt (bytes 4 qual)
+beginNumber stage room f chrom pos rlen qual = wrongBegin (rank stage) room f chrom pos rlen qual
 
 abbrev pub begunState : Facts → Builder
 begunState f =
@@ -107,7 +95,7 @@ afterBegin st buf f chrom pos rlen qual =
 
 -- ID: any text
 unfoldable pub idNumber : Builder → List ℕ → ℕ
-idNumber st xs = firstOf (order 1 1 (st .stage)) (givenNumber any text (length xs) xs)
+idNumber st xs = wrongId (rank (st .stage)) xs
 
 unfoldable pub idGiven : Builder → ℕ → List ℕ → Turned
 idGiven st room xs =
@@ -119,10 +107,7 @@ afterId st buf xs = afterwards st buf (idNumber st xs) (givenBytes text (length 
 
 -- an allele: not over 65,535 of them, not empty, each byte from 21 to 7E
 unfoldable pub alleleRules : Builder → List ℕ → ℕ
-alleleRules st xs =
-    firstOf (order 2 3 (st .stage))
-    (firstOf (countNumber (st .alleles) 65535)
-    (firstOf (pick (eqb (length xs) 0) 7 0) (alleleNumber xs)))
+alleleRules st xs = wrongAllele (rank (st .stage)) (st .alleles) xs
 
 unfoldable pub alleleGiven : Builder → ℕ → List ℕ → Turned
 alleleGiven st room xs =
@@ -134,7 +119,7 @@ afterAllele st buf xs = afterwards st buf (alleleRules st xs) (givenBytes text (
 
 -- FILTER: by element 8, then 11
 unfoldable pub filterRules : Builder → List ℕ → ℕ
-filterRules st xs = firstOf (order 3 3 (st .stage)) (filtersNumber (st .facts .strings) xs)
+filterRules st xs = wrongFilter (rank (st .stage)) (st .facts .strings) xs
 
 unfoldable pub filterGiven : Builder → ℕ → List ℕ → Turned
 filterGiven st room xs =
@@ -144,13 +129,9 @@ filterGiven st room xs =
 unfoldable pub afterFilter : Builder → List ℕ → List ℕ → List ℕ
 afterFilter st buf xs = afterwards st buf (filterRules st xs) (givenBytes integers (length xs) xs)
 
--- a key that is an offset below the dictionary's size
-unfoldable pub keyNumber : ℕ → ℕ → ℕ
-keyNumber strings key = pick (outside strings key) 8 0
-
 -- INFO: a key and any value
 unfoldable pub infoKey : Stage → ℕ → ℕ → ℕ → ℕ
-infoKey stage infos strings key = firstOf (order 4 5 stage) (firstOf (countNumber infos 65535) (keyNumber strings key))
+infoKey stage infos strings key = wrongInfo (rank stage) infos strings key
 
 unfoldable pub infoRules : Builder → ℕ → Kind → List ℕ → ℕ
 infoRules st key k xs = firstOf (infoKey (st .stage) (st .infos) (st .facts .strings) key) (givenNumber any k (length xs) xs)
@@ -169,27 +150,13 @@ isIntegers integers = true
 isIntegers floats = false
 isIntegers text = false
 
--- 5 without people, 11 for a key that stood earlier, 6 for GT in something else than integers, 7 for a list that isn't people times length
-unfoldable pub peopleNumber : ℕ → ℕ
-peopleNumber people = pick (eqb people 0) 5 0
-
-unfoldable pub repeatNumber : List ℕ → ℕ → ℕ
-repeatNumber earlier key = pick (among key earlier) 11 0
-
-unfoldable pub gtNumber : ℕ → ℕ → Bool → ℕ
-gtNumber gt key whole = pick (eqb key gt) (pick whole 0 6) 0
-
-unfoldable pub listNumber : ℕ → ℕ → ℕ → ℕ
-listNumber people len count = pick (eqb (people * len) count) 0 7
-
 unfoldable pub formatCount : Stage → ℕ → ℕ → ℕ
-formatCount stage people formats = firstOf (order 4 6 stage) (firstOf (peopleNumber people) (countNumber formats 255))
+formatCount stage people formats = formatOrder (rank stage) people formats
 
-unfoldable pub formatKey : ℕ → List ℕ → ℕ → ℕ
-formatKey strings earlier key = firstOf (keyNumber strings key) (repeatNumber earlier key)
-
-unfoldable pub formatShape : ℕ → ℕ → Bool → ℕ → ℕ → ℕ → ℕ
-formatShape gt key whole people len count = firstOf (gtNumber gt key whole) (listNumber people len count)
+-- what is wrong with a FORMAT turn before its elements are looked at
+unfoldable pub formatFront : Builder → ℕ → Bool → ℕ → ℕ → ℕ
+formatFront st key whole len count =
+    wrongFormat (rank (st .stage)) (st .facts) (st .formats) (take (st .formats) (st .keys)) key whole len count
 
 unfoldable pub formatRules : Builder → ℕ → Kind → ℕ → List ℕ → ℕ
 formatRules st key k len xs =
@@ -209,15 +176,13 @@ afterFormat st buf key k len xs = afterwards st buf (formatRules st key k len xs
 
 -- end: fills in both block lengths and both count fields
 unfoldable pub endNumber : Stage → ℕ → ℕ
-endNumber stage room = firstOf (order 4 6 stage) (reachNumber room (peopleAt + 4))
+endNumber stage room = wrongEnd (rank stage) room
 
 abbrev pub endedState : Builder → Builder
 endedState st = movedTo st Ended (st .at) (st .border) (st .alleles) (st .infos)
 
 unfoldable pub filledIn : Builder → List ℕ → List ℕ
-filledIn st buf =
-    sets (sets (sets (sets buf 0 (bytes 4 (st .border - 8))) indivAt (bytes 4 (st .at - st .border)))
-    countsAt (bytes 4 (st .alleles * 65536 + st .infos))) peopleAt (bytes 4 (st .formats * 16777216 + st .facts .people))
+filledIn st buf = fieldsFilled (st .border) (st .at) (st .alleles) (st .infos) (st .formats) (st .facts .people) buf
 
 unfoldable pub built : Builder → ℕ → Turned
 built st room = turned st (endNumber (st .stage) room) (endedState st)

@@ -22,7 +22,8 @@ use Rattle.genotypes.specs.declared.Gt.{Gt}
 use Rattle.genotypes.specs.declared.Genotypes.the-variants.{Sound}
 use Rattle.encode.specs.Encode.{integerBytes, descriptorBytes}
 use Rattle.record.specs.Shown.{Shown, Kind, integers, floats, text, Field}
-use Rattle.build.specs.Values.{givenAs, writtenAs, givenBytes, pairBytes}
+use Rattle.append.specs.Values.{writtenAs, givenBytes, pairBytes}
+use Rattle.rules.specs.Values.{givenAs}
 use Rattle.build.specs.Turns.{isIntegers}
 use Rattle.built.specs.Records.{joined, textBytes, infoBytes, fieldBytes, siteBytes, All, KeepsAllele, KeepsInfo, KeepsField, KeepsFields, Keeps}
 use Rattle.built.proofs.Values.{length-given, drop-front, sound-given, id-given, allele-given, filter-given, keyed-bytes, info-given}

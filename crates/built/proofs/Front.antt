@@ -16,7 +16,7 @@ use Rattle.fixed.specs.Layout.{indivAt, chromAt, posAt, rlenAt, countsAt, peopl
 use Rattle.fixed.specs.declared.Facts.{Facts}
 use Rattle.fixed.specs.declared.Site.{Site}
 use Rattle.record.specs.Shown.{Shown}
-use Rattle.build.specs.Turns.{fieldsNumber, frontBytes}
+use Rattle.front.specs.Front.{fieldsNumber, frontBytes}
 use Rattle.fixed.proofs.Fits.{Fits}
 use Rattle.built.specs.Records.{siteBytes, genotypeBytes, filledFront, recordBytes, Keeps}
 

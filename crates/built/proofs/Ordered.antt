@@ -6,10 +6,11 @@ use native.Mathlib.Omega.{arith}
 use lib.ListN.{length}
 use Rattle.fixed.specs.declared.Facts.{Facts}
 use Rattle.record.specs.Shown.{Shown, Pair, Field}
+use Rattle.rules.specs.Rules.{formatOrder, wrongAllele, wrongBegin, wrongEnd, wrongFilter, wrongId, wrongInfo}
 use Rattle.build.specs.Order.{rank}
 use Rattle.build.specs.Turns.{freshState, beginNumber, idNumber, alleleRules, filterRules, infoKey, infoRules, formatCount, formatRules, endNumber}
 use Rattle.build.specs.declared.Builder.{Builder}
-use Rattle.build.proofs.Numbers.{first-zero}
+use Rattle.append.proofs.Numbers.{first-zero}
 use Rattle.built.specs.Runs.{Turn, begin, id, allele, filter, info, format, end, Run, turnsOf, shownAs, giving, gives, Finished}
 use Rattle.built.proofs.Steps.{turnNumber, run-none, run-first}
 use Rattle.built.proofs.Stands.{order-zero}
@@ -34,7 +35,7 @@ high (format x) = 6
 high end = 6
 
 turn-order : (f : Facts) (st : Builder) (room : ℕ) (x : Turn) → turnNumber f st room x ≡ 0 → (low x ≤ rank (st .stage)) × (rank (st .stage) ≤ high x)
-unfolding beginNumber idNumber alleleRules filterRules infoKey infoRules formatCount formatRules endNumber
+unfolding beginNumber wrongBegin idNumber wrongId alleleRules wrongAllele filterRules wrongFilter infoKey wrongInfo infoRules formatCount formatOrder formatRules endNumber wrongEnd
 turn-order f st room (begin c p r q) h = order-zero 0 0 (st .stage) (first-zero _ _ h .0)
 turn-order f st room (id xs) h = order-zero 1 1 (st .stage) (first-zero _ _ (first-zero _ _ h .0) .0)
 turn-order f st room (allele xs) h = order-zero 2 3 (st .stage) (first-zero _ _ (first-zero _ _ h .0) .0)

@@ -10,12 +10,15 @@ use borrow.Author.Tests.{le-ltb}
 use Rattle.fixed.specs.Layout.{peopleAt, idAt}
 use Rattle.fixed.specs.declared.Facts.{Facts}
 use Rattle.record.specs.Shown.{text, Pair, Field}
-use Rattle.build.specs.Order.{rank, reachNumber}
-use Rattle.build.specs.Turns.{freshState, fieldsNumber, beginNumber, frontBytes, begunState, endNumber, endedState, filledIn}
+use Rattle.rules.specs.Rules.{reachNumber, wrongBegin, wrongEnd}
+use Rattle.build.specs.Order.{rank}
+use Rattle.front.specs.Front.{fieldsNumber, frontBytes}
+use Rattle.build.specs.Turns.{freshState, beginNumber, begunState, endNumber, endedState, filledIn}
 use Rattle.build.specs.declared.Stage.{Stage}
 use Rattle.build.specs.declared.Stage.the-variants.{Fresh, Begun, Alleles, Infos, Formats}
 use Rattle.build.specs.declared.Builder.{Builder}
-use Rattle.build.proofs.Numbers.{first-zero, reach-zero}
+use Rattle.append.proofs.Numbers.{first-zero}
+use Rattle.rules.proofs.Numbers.{reach-zero}
 use Rattle.words.specs.Words.{bytes}
 use Rattle.built.specs.Records.{joined, textBytes, infoBytes, fieldBytes, All, Fit, KeepsAllele, KeepsInfo, KeepsFields}
 use Rattle.built.specs.Runs.{Turn, begin, allele, info, format, end, FitTurn, Run, done}
@@ -155,7 +158,7 @@ begin-state f chrom pos rlen qual = rw (length-frontBytes chrom pos rlen qual)
 pub begin-run : {f : Facts} {start : List ℕ} {c p r q : ℕ} {rest : List Turn} {last : Builder} {out : List ℕ} → fieldsNumber f c p r q ≡ 0
     → idAt ≤ length start → RunFrom f start Begun (length (frontBytes c p r q)) (frontBytes c p r q) 0 0 [] rest last out
     → Run f freshState start (begin c p r q ∷ rest) last out
-unfolding freshState beginNumber reachNumber
+unfolding freshState beginNumber wrongBegin reachNumber
 begin-run {f} {start} {c} {p} {r} {q} {rest} {last} {out} h room run =
     let on : Run f (begunState f) (sets start 0 (frontBytes c p r q)) rest last out = rw (begin-state f c p r q) (run .run) in
     run-next (first-right _ _ (order-right 0 0 Fresh (omega arith, omega arith)) (first-right _ _ h (rw (le-ltb (length start) idAt room)))) on
@@ -164,7 +167,7 @@ pub begin-back : {f : Facts} {start : List ℕ} {c p r q : ℕ}
     {rest : List Turn} {last : Builder} {out : List ℕ}
     → Run f freshState start (begin c p r q ∷ rest) last out
     → (fieldsNumber f c p r q ≡ 0) × (idAt ≤ length start) × RunFrom f start Begun (length (frontBytes c p r q)) (frontBytes c p r q) 0 0 [] rest last out
-unfolding freshState beginNumber
+unfolding freshState beginNumber wrongBegin
 begin-back {f} {start} {c} {p} {r} {q} {rest} {last} {out} run =
     let on = run-first run in
     let z = first-zero _ _ (first-zero _ _ (on .0) .1) in
@@ -175,7 +178,7 @@ pub end-run : {f : Facts} {start : List ℕ} {s : Stage} {border : ℕ} {whole :
     → idAt ≤ length start
     → RunFrom f start s border whole a i keys (end ∷ []) (endedState (stands f s border whole a i keys))
     (filledIn (stands f s border whole a i keys) (sets start 0 whole))
-unfolding endNumber reachNumber
+unfolding endNumber wrongEnd reachNumber
 end-run {f} {start} {s} {border} {whole} {a} {i} {keys} o room =
     let n = length-sets start 0 whole in
     record {

@@ -13,7 +13,8 @@ use Rattle.fixed.specs.Layout.{idAt, mostBytes}
 use Rattle.fixed.specs.declared.Facts.{Facts}
 use Rattle.encode.specs.Encode.{integerBytes, descriptorBytes, widest}
 use Rattle.record.specs.Shown.{Shown, Kind, integers, floats, text, Pair, Field, kindOf, elementsOf, pairsShown, fieldsShown, allelesThen, shownOf}
-use Rattle.build.specs.Values.{givenAs, writtenAs, givenBytes, pairBytes}
+use Rattle.append.specs.Values.{writtenAs, givenBytes, pairBytes}
+use Rattle.rules.specs.Values.{givenAs}
 use Rattle.built.specs.Records.{joined, textBytes, infoBytes, fieldBytes, siteBytes, genotypeBytes, recordBytes, All, Fit, KeepsAllele, KeepsInfo, KeepsFields, Keeps}
 use Rattle.built.proofs.Widths.{widest-types, held-written}
 use Rattle.built.proofs.Elements.{length-elementsBytes, shownNumbers-elements}

@@ -18,13 +18,16 @@ use Rattle.fixed.specs.Layout.{mostBytes}
 use Rattle.fixed.specs.declared.Facts.{Facts}
 use Rattle.record.specs.Shown.{integers, text, Pair, Field}
 use Rattle.given.specs.Given.{filtersNumber}
-use Rattle.build.specs.Order.{rank, firstOf, order, countNumber, roomNumber}
-use Rattle.build.specs.Values.{any, givenBytes, givenNumber}
-use Rattle.build.specs.Turns.{inSite, inGenotypes, idNumber, alleleRules, filterRules, infoKey, infoRules, isIntegers, peopleNumber, repeatNumber, gtNumber, listNumber, formatCount, formatKey, formatShape, formatRules}
+use Rattle.append.specs.Append.{firstOf, roomNumber}
+use Rattle.rules.specs.Rules.{countNumber, formatKey, formatOrder, formatShape, gtNumber, listNumber, ordered, peopleNumber, repeatNumber, wrongAllele, wrongFilter, wrongId, wrongInfo}
+use Rattle.rules.specs.Values.{any, givenNumber}
+use Rattle.build.specs.Order.{rank, order}
+use Rattle.append.specs.Values.{givenBytes}
+use Rattle.build.specs.Turns.{inSite, inGenotypes, idNumber, alleleRules, filterRules, infoKey, infoRules, isIntegers, formatCount, formatRules}
 use Rattle.build.specs.declared.Stage.{Stage}
 use Rattle.build.specs.declared.Stage.the-variants.{Named, Alleles, Filtered, Infos, Formats}
 use Rattle.build.specs.declared.Builder.{Builder}
-use Rattle.build.proofs.Numbers.{first-zero, room-zero}
+use Rattle.append.proofs.Numbers.{first-zero, room-zero}
 use Rattle.built.specs.Records.{textBytes, infoBytes, fieldBytes, Fit, KeepsAllele, KeepsInfo, KeepsField}
 use Rattle.built.specs.Runs.{Turn, id, allele, filter, info, format, FitTurn, Run}
 use Rattle.built.proofs.Steps.{turnNumber, turnState, turnBuffer, run-first, run-next}
@@ -64,7 +67,7 @@ unfolding firstOf
 first-right a b p q = rw (p, q)
 
 pub order-zero : (low high : ℕ) (s : Stage) → order low high s ≡ 0 → (low ≤ rank s) × (rank s ≤ high)
-unfolding order
+unfolding ordered
 order-zero low high s h = by-tests (leb low (rank s)) (leb (rank s) high) refl refl h
   where
     by-tests : (a b : Bool) → leb low (rank s) ≡ a → leb (rank s) high ≡ b → _≡_ {A = ℕ} (pick a (pick b 0 12) 12) 0 → (low ≤ rank s) × (rank s ≤ high)
@@ -73,7 +76,7 @@ order-zero low high s h = by-tests (leb low (rank s)) (leb (rank s) high) refl r
     by-tests false b p q k = absurd (omega arith)
 
 pub order-right : (low high : ℕ) (s : Stage) → (low ≤ rank s) × (rank s ≤ high) → order low high s ≡ 0
-unfolding order
+unfolding ordered
 order-right low high s h = rw (le-leb low (rank s) (h .0), le-leb (rank s) high (h .1))
 
 count-zero : (n most : ℕ) → countNumber n most ≡ 0 → n < most
@@ -150,7 +153,7 @@ pub id-run : {f : Facts} {start : List ℕ} {s : Stage} {border : ℕ} {whole : 
     → (1 ≤ rank s) × (rank s ≤ 1) → givenNumber any text (length xs) xs ≡ 0 → Fits start (whole ++ textBytes xs)
     → RunFrom f start Named (length (whole ++ textBytes xs)) (whole ++ textBytes xs) a i keys rest last out
     → RunFrom f start s border whole a i keys (id xs ∷ rest) last out
-unfolding idNumber
+unfolding idNumber wrongId
 id-run {f} {start} {s} {border} {whole} {a} {i} {keys} {xs} o h r run =
     record {
       run = append-run (id-appends f start s border whole a i keys xs)
@@ -162,7 +165,7 @@ pub id-back : {f : Facts} {start : List ℕ} {s : Stage} {border : ℕ} {whole :
     → RunFrom f start s border whole a i keys (id xs ∷ rest) last out
     → (givenNumber any text (length xs) xs ≡ 0) × Fits start (whole ++ textBytes xs)
     × RunFrom f start Named (length (whole ++ textBytes xs)) (whole ++ textBytes xs) a i keys rest last out
-unfolding idNumber
+unfolding idNumber wrongId
 id-back {f} {start} {s} {border} {whole} {a} {i} {keys} {xs} run =
     let on = append-back (id-appends f start s border whole a i keys xs) (run .run) in
     let z = first-zero _ _ (on .0) in
@@ -180,7 +183,7 @@ pub allele-run : {f : Facts} {start : List ℕ} {s : Stage} {border : ℕ} {whol
     → (2 ≤ rank s) × (rank s ≤ 3) → KeepsAllele xs → a < 65535 → Fits start (whole ++ textBytes xs)
     → RunFrom f start Alleles (length (whole ++ textBytes xs)) (whole ++ textBytes xs) (a + 1) i keys rest last out
     → RunFrom f start s border whole a i keys (allele xs ∷ rest) last out
-unfolding alleleRules
+unfolding alleleRules wrongAllele
 allele-run {f} {start} {s} {border} {whole} {a} {i} {keys} {xs} o k c r run =
     record {
       run = append-run (allele-appends f start s border whole a i keys xs)
@@ -194,7 +197,7 @@ pub allele-back : {f : Facts} {start : List ℕ} {s : Stage} {border : ℕ} {who
     → Fit text xs → RunFrom f start s border whole a i keys (allele xs ∷ rest) last out
     → KeepsAllele xs × (a < 65535) × Fits start (whole ++ textBytes xs)
     × RunFrom f start Alleles (length (whole ++ textBytes xs)) (whole ++ textBytes xs) (a + 1) i keys rest last out
-unfolding alleleRules
+unfolding alleleRules wrongAllele
 allele-back {f} {start} {s} {border} {whole} {a} {i} {keys} {xs} fit run =
     let on = append-back (allele-appends f start s border whole a i keys xs) (run .run) in
     let z = first-zero _ _ (on .0) in
@@ -221,7 +224,7 @@ pub filter-run : {f : Facts} {start : List ℕ} {s : Stage} {border : ℕ} {whol
     → (3 ≤ rank s) × (rank s ≤ 3) → filtersNumber (f .strings) xs ≡ 0 → Fits start (whole ++ filterBytes xs)
     → RunFrom f start Filtered (length (whole ++ filterBytes xs)) (whole ++ filterBytes xs) a i keys rest last out
     → RunFrom f start s border whole a i keys (filter xs ∷ rest) last out
-unfolding filterRules
+unfolding filterRules wrongFilter
 filter-run {f} {start} {s} {border} {whole} {a} {i} {keys} {xs} o h r run =
     record {
       run = append-run (filter-appends f start s border whole a i keys xs)
@@ -233,7 +236,7 @@ pub filter-back : {f : Facts} {start : List ℕ} {s : Stage} {border : ℕ} {who
     → RunFrom f start s border whole a i keys (filter xs ∷ rest) last out
     → (filtersNumber (f .strings) xs ≡ 0) × Fits start (whole ++ filterBytes xs)
     × RunFrom f start Filtered (length (whole ++ filterBytes xs)) (whole ++ filterBytes xs) a i keys rest last out
-unfolding filterRules
+unfolding filterRules wrongFilter
 filter-back {f} {start} {s} {border} {whole} {a} {i} {keys} {xs} run =
     let on = append-back (filter-appends f start s border whole a i keys xs) (run .run) in
     let z = first-zero _ _ (on .0) in
@@ -251,7 +254,7 @@ pub info-run : {f : Facts} {start : List ℕ} {s : Stage} {border : ℕ} {whole 
     → (4 ≤ rank s) × (rank s ≤ 5) → KeepsInfo (f .strings) p → i < 65535 → Fits start (whole ++ infoBytes p)
     → RunFrom f start Infos (length (whole ++ infoBytes p)) (whole ++ infoBytes p) a (i + 1) keys rest last out
     → RunFrom f start s border whole a i keys (info p ∷ rest) last out
-unfolding infoRules infoKey
+unfolding infoRules infoKey wrongInfo
 info-run {f} {start} {s} {border} {whole} {a} {i} {keys} {p} o k c r run =
     record {
       run = append-run (info-appends f start s border whole a i keys p)
@@ -265,7 +268,7 @@ pub info-back : {f : Facts} {start : List ℕ} {s : Stage} {border : ℕ} {whole
     → FitTurn (info p) → RunFrom f start s border whole a i keys (info p ∷ rest) last out
     → KeepsInfo (f .strings) p × (i < 65535) × Fits start (whole ++ infoBytes p)
     × RunFrom f start Infos (length (whole ++ infoBytes p)) (whole ++ infoBytes p) a (i + 1) keys rest last out
-unfolding infoRules infoKey
+unfolding infoRules infoKey wrongInfo
 info-back {f} {start} {s} {border} {whole} {a} {i} {keys} {p} fit run =
     let on = append-back (info-appends f start s border whole a i keys p) (run .run) in
     let z = first-zero _ _ (on .0) in
@@ -334,7 +337,7 @@ pub format-run : {f : Facts} {start : List ℕ} {s : Stage} {border : ℕ} {whol
     → (4 ≤ rank s) × (rank s ≤ 6) → 0 < f .people → KeepsField f a keys x → length keys < 255 → Fits start (whole ++ fieldBytes x)
     → RunFrom f start Formats border (whole ++ fieldBytes x) a i (keys ++ (x .key ∷ [])) rest last out
     → RunFrom f start s border whole a i keys (format x ∷ rest) last out
-unfolding formatRules formatCount formatKey formatShape
+unfolding formatRules formatCount formatOrder formatKey formatShape
 format-run {f} {start} {s} {border} {whole} {a} {i} {keys} {x} o p k c r run =
     let once : repeatNumber (take (length keys) (sets (replicate 256 0) 0 keys)) (x .key) ≡ 0 =
     rw (earlier-keys keys (omega arith)) (repeat-right keys (x .key) (k .once)) in
@@ -356,7 +359,7 @@ pub format-back : {f : Facts} {start : List ℕ} {s : Stage} {border : ℕ} {who
     → FitTurn (format x) → RunFrom f start s border whole a i keys (format x ∷ rest) last out
     → KeepsField f a keys x × (0 < f .people) × (length keys < 255) × Fits start (whole ++ fieldBytes x)
     × RunFrom f start Formats border (whole ++ fieldBytes x) a i (keys ++ (x .key ∷ [])) rest last out
-unfolding formatRules formatCount formatKey formatShape
+unfolding formatRules formatCount formatOrder formatKey formatShape
 format-back {f} {start} {s} {border} {whole} {a} {i} {keys} {x} fit run =
     let on = append-back (format-appends f start s border whole a i keys x) (run .run) in
     let z = first-zero _ _ (on .0) in

@@ -11,9 +11,11 @@ use borrow.Author.Tests.{eqb-true}
 use Rattle.words.specs.Pick.{pick}
 use Rattle.fixed.specs.declared.Facts.{Facts}
 use Rattle.record.specs.Shown.{integers}
-use Rattle.build.specs.Order.{firstOf, roomNumber, turned, appended, afterwards}
-use Rattle.build.specs.Values.{givenBytes}
-use Rattle.build.specs.Turns.{inSite, inGenotypes, beginNumber, frontBytes, begunState, begun, afterBegin, idNumber, idGiven, afterId, alleleRules, alleleGiven, afterAllele, filterRules, filterGiven, afterFilter, infoRules, infoGiven, afterInfo, formatRules, formatGiven, afterFormat, endNumber, endedState, filledIn, built, afterEnd}
+use Rattle.append.specs.Append.{firstOf, roomNumber, writtenTo}
+use Rattle.build.specs.Order.{turned, appended, afterwards}
+use Rattle.append.specs.Values.{givenBytes}
+use Rattle.front.specs.Front.{frontBytes}
+use Rattle.build.specs.Turns.{inSite, inGenotypes, beginNumber, begunState, begun, afterBegin, idNumber, idGiven, afterId, alleleRules, alleleGiven, afterAllele, filterRules, filterGiven, afterFilter, infoRules, infoGiven, afterInfo, formatRules, formatGiven, afterFormat, endNumber, endedState, filledIn, built, afterEnd}
 use Rattle.build.specs.declared.Stage.the-variants.{Named, Alleles, Filtered, Infos}
 use Rattle.build.specs.declared.Builder.{Builder}
 use Rattle.build.specs.declared.Answer.the-variants.{Taken}
@@ -64,7 +66,7 @@ answers-turned f st room end = refl
 
 writes-turn : (f : Facts) (st : Builder) (buf : List ℕ) (x : Turn)
     → writes f st buf x ≡ pick (eqb (turnNumber f st (length buf) x) 0) (turnBuffer st buf x) buf
-unfolding afterBegin afterId afterAllele afterFilter afterInfo afterFormat afterEnd afterwards
+unfolding afterBegin afterId afterAllele afterFilter afterInfo afterFormat afterEnd afterwards writtenTo
 writes-turn f st buf (begin c p r q) = refl
 writes-turn f st buf (id xs) = refl
 writes-turn f st buf (allele xs) = refl

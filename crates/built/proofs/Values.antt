@@ -36,8 +36,9 @@ use Rattle.site.specs.declared.Step.the-variants.{At}
 use Rattle.record.specs.Shown.{Kind, integers, floats, text, Pair}
 use Rattle.encode.specs.Encode.{integerBytes, descriptorBytes, widest, narrowed, elementsBytes, valueBytes}
 use Rattle.given.specs.Given.{numberOf, filtersNumber, alleleNumber}
-use Rattle.build.specs.Values.{givenAs, writtenAs, any, givenBytes, pairBytes, givenNumber}
-use Rattle.build.specs.Turns.{keyNumber}
+use Rattle.append.specs.Values.{writtenAs, givenBytes, pairBytes}
+use Rattle.rules.specs.Rules.{keyNumber}
+use Rattle.rules.specs.Values.{any, givenAs, givenNumber}
 use Rattle.built.specs.Records.{Fit, textBytes, infoBytes, KeepsAllele, KeepsInfo}
 use Rattle.built.proofs.Widths.{narrowest-types, shown-narrowest, widest-types, held-written}
 use Rattle.built.proofs.Elements.{length-elementsBytes, shownNumbers-elements, judged-elements}

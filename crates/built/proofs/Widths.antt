@@ -23,7 +23,8 @@ use Rattle.vectors.specs.Sound.{highest, codeMost, mostOf}
 use Rattle.vectors.proofs.Codes.{code-sound, sound-code}
 use Rattle.encode.specs.Encode.{typeFor, widest, markedAs, narrowed}
 use Rattle.record.specs.Shown.{Kind, integers, floats, text}
-use Rattle.build.specs.Values.{givenAs, writtenAs}
+use Rattle.append.specs.Values.{writtenAs}
+use Rattle.rules.specs.Values.{givenAs}
 use Rattle.built.specs.Records.{All, Fit}
 use Rattle.built.specs.Widths.{between}
 

@@ -14,8 +14,9 @@ use Rattle.fixed.specs.Layout.{indivAt, countsAt, peopleAt, idAt}
 use Rattle.fixed.specs.declared.Facts.{Facts}
 use Rattle.record.specs.Shown.{Shown, integers, Field}
 use Rattle.build.specs.Order.{rank}
-use Rattle.build.specs.Values.{givenBytes}
-use Rattle.build.specs.Turns.{freshState, frontBytes, endedState, filledIn}
+use Rattle.append.specs.Values.{givenBytes}
+use Rattle.front.specs.Front.{frontBytes, fieldsFilled}
+use Rattle.build.specs.Turns.{freshState, endedState, filledIn}
 use Rattle.build.specs.declared.Stage.{Stage}
 use Rattle.build.specs.declared.Stage.the-variants.{Named, Alleles, Filtered, Infos, Formats, Ended}
 use Rattle.build.specs.declared.Builder.{Builder}
@@ -118,7 +119,7 @@ length-genotypes r = let m = length-append (sited r) (joined fieldBytes (r .form
 
 filledIn-record : (f : Facts) (r : Shown) (s : Stage) (buf : List ℕ) → length (wholly r) ≤ length buf
     → filledIn (standing f r s) (sets buf 0 (wholly r)) ≡ sets buf 0 (recordBytes (f .people) r)
-unfolding filledIn filledFront recordBytes
+unfolding filledIn fieldsFilled filledFront recordBytes
 filledIn-record f r s buf h =
     let n = length-sited r in
     let site : length (sited r) - 8 ≡ idAt - 8 + length (siteBytes r) = omega arith in

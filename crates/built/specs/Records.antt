@@ -15,8 +15,11 @@ use Rattle.fixed.specs.declared.Facts.{Facts}
 use Rattle.genotypes.specs.Formats.{roleOf}
 use Rattle.record.specs.Shown.{Shown, Kind, integers, floats, text, Elements, Pair, Field}
 use Rattle.given.specs.Given.{filtersNumber, alleleNumber}
-use Rattle.build.specs.Values.{givenAs, any, givenBytes, pairBytes, givenNumber}
-use Rattle.build.specs.Turns.{fieldsNumber, frontBytes, keyNumber, isIntegers}
+use Rattle.append.specs.Values.{givenBytes, pairBytes}
+use Rattle.front.specs.Front.{fieldsNumber, frontBytes}
+use Rattle.rules.specs.Rules.{keyNumber}
+use Rattle.rules.specs.Values.{any, givenAs, givenNumber}
+use Rattle.build.specs.Turns.{isIntegers}
 
 -- lists one after the other, each as its bytes
 unfoldable pub joined : {A : Type 0} → (A → List ℕ) → List A → List ℕ

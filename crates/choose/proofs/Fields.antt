@@ -1,11 +1,11 @@
--- FORMAT fields passed one after the other: one turn of the walk for their size and for their chosen bytes. Rests on specs/Sizes,
--- specs/Chosen, and on fetch for the field at the front of a list.
+-- FORMAT fields passed one after the other: one turn of the walk for their chosen bytes. Rests on specs/Chosen, on
+-- people for their size, and on fetch for the field at the front of a list.
 use mathlib.Core.Path.{_≡_, refl}
 use mathlib.Core.List.{List, [], _++_}
 use mathlib.Core.Bool.{true}
 use Prim.Native.Nat.{ℕ, zero, suc, _+_, _-_, _*_, _<_, _≤_}
 use native.Mathlib.Omega.{arith}
-use native.Mathlib.Nat.{mul-assoc, mul-le-mul-right}
+use native.Mathlib.Nat.{mul-assoc}
 use native.Mathlib.Numerals.{sub-one}
 use lib.ListN.{length, take, drop, length-append, length-drop}
 use lib.Seq.{length-take-le}
@@ -16,25 +16,14 @@ use Rattle.values.specs.declared.Refusal.{Refusal}
 use Rattle.fetch.specs.Fetch.{paired}
 use Rattle.fetch.specs.declared.Found.{Found}
 use Rattle.fetch.specs.declared.Found.the-variants.{Field, Refused}
-use Rattle.fetch.proofs.Inside.{paired-inside}
-use Rattle.fetch.proofs.Present.{paired-stop}
-use Rattle.choose.specs.Choice.{ascending, chosenParts}
+use Rattle.fetched.proofs.Inside.{paired-inside}
+use Rattle.fetched.proofs.Present.{paired-stop}
+use Rattle.people.specs.Choice.{ascending, chosenParts}
+use Rattle.people.specs.Sizes.{fieldSize, fieldsSize}
+use Rattle.people.proofs.Choice.{length-chosenParts}
 use Rattle.choose.specs.Chosen.{chosenField, chosenFields}
-use Rattle.choose.specs.Sizes.{fieldSize, fieldsSize}
-use Rattle.choose.proofs.Choice.{length-chosenParts}
 
--- some people's parts are no more than everybody's
-pub kept-parts : (kept people n w : ℕ) → kept ≤ people → kept * (n * w) ≤ people * n * w
-kept-parts kept people n w h = rw (mul-assoc people n w) (mul-le-mul-right (n * w) h)
-
--- the next field, where some are left: its size, and its chosen bytes
-pub size-turn : (people kept n at : ℕ) (s : List ℕ) {key t len first stop : ℕ} → 0 < n
-    → paired people Format at (drop at s) ≡ Field key t len first stop → at ≤ stop
-    → fieldsSize people kept n at (drop at s) ≡ first - at + kept * (len * widthOf t) + fieldsSize people kept (n - 1) stop (drop stop s)
-unfolding fieldsSize
-size-turn people kept zero at s z h r = absurd (omega arith)
-size-turn people kept (suc n) at s {stop = stop} z h r = rw (h, sub-one, drop-on s at stop r)
-
+-- the next field, where some are left: its chosen bytes
 pub fields-turn : (people : ℕ) (cs : List ℕ) (n at : ℕ) (s : List ℕ) {key t len first stop : ℕ} → 0 < n
     → paired people Format at (drop at s) ≡ Field key t len first stop → at ≤ first → first ≤ stop
     → chosenFields people cs n at (drop at s)
@@ -44,12 +33,6 @@ fields-turn people cs zero at s z h r e = absurd (omega arith)
 fields-turn people cs (suc n) at s {first = first} {stop = stop} z h r e = rw (h, sub-one, drop-on s at first r, drop-on s at stop (omega arith))
 
 -- no field is there
-pub size-none : (people kept n at : ℕ) (s : List ℕ) {r : Refusal} → 0 < n → paired people Format at (drop at s) ≡ Refused r
-    → fieldsSize people kept n at (drop at s) ≡ 0
-unfolding fieldsSize
-size-none people kept zero at s z h = absurd (omega arith)
-size-none people kept (suc n) at s z h = rw h
-
 pub fields-none : (people : ℕ) (cs : List ℕ) (n at : ℕ) (s : List ℕ) {r : Refusal} → 0 < n → paired people Format at (drop at s) ≡ Refused r
     → chosenFields people cs n at (drop at s) ≡ []
 unfolding chosenFields
@@ -75,19 +58,3 @@ length-chosenFields people cs (suc n) at l h = by-field (paired people Format at
         let head : length (take (first - at) l) ≡ first - at = length-take-le (first - at) l (omega (arith, i)) in
         rw (length-append, length-append, head, length-chosenParts (len * widthOf t) 0 people cs (drop (first - at) l) h room, on stop (drop (stop - at) l))
         (omega arith)
-
--- some people's fields are no longer than everybody's
-pub size-inside : (people kept n at : ℕ) (l : List ℕ) → kept ≤ people → fieldsSize people kept n at l ≤ length l
-unfolding fieldsSize
-size-inside people kept zero at l h = omega arith
-size-inside people kept (suc n) at l h = by-field (paired people Format at l) refl (λ q m. size-inside people kept n q m h)
-  where
-    by-field : (f : Found) → paired people Format at l ≡ f → ((q : ℕ) (m : List ℕ) → fieldsSize people kept n q m ≤ length m)
-        → fieldSize kept at l (fieldsSize people kept n) f ≤ length l
-    by-field (Refused r) e on = omega arith
-    by-field (Field key t len first stop) e on =
-        let i = rw e at (paired-inside people Format at l) in
-        let st = paired-stop people Format at l e in
-        let k = kept-parts kept people len (widthOf t) h in
-        let r = rw (length-drop (stop - at) l) at (on stop (drop (stop - at) l)) in
-        omega (arith, i)

@@ -9,7 +9,7 @@ use Rattle.fixed.proofs.Fits.{fixed-fits}
 use Rattle.genotypes.specs.declared.Gt.{Gt}
 use Rattle.record.specs.Reading.{reading}
 use Rattle.record.specs.declared.Reading.the-variants.{Accepted}
-use Rattle.fetch.proofs.There.{accepted}
+use Rattle.fetched.proofs.There.{accepted}
 
 pub people-bound : (f : Facts) (s : List ℕ) (t : Site) (g : Gt) → reading f s ≡ Accepted t g → t .people < 16777216
 people-bound f s t g h = let e = fixed-fits f s t (accepted f s t g h .front) .people in omega arith

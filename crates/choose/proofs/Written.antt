@@ -7,6 +7,7 @@ use native.Mathlib.Omega.{arith}
 use native.Mathlib.Nat.{mul-assoc, zero-add}
 use lib.ListN.{length, take, drop, length-append, length-drop}
 use lib.Seq.{sets, length-sets, length-take-le}
+use borrow.Author.Tests.{le-ltb}
 use Rattle.words.specs.Words.{bytes}
 use Rattle.words.proofs.Words.{length-bytes}
 use Rattle.words.proofs.Places.{length-part}
@@ -17,14 +18,14 @@ use Rattle.fixed.specs.Layout.{indivAt, peopleAt, idAt}
 use Rattle.fixed.specs.declared.Site.{Site}
 use Rattle.fetch.specs.Fetch.{paired}
 use Rattle.fetch.specs.declared.Found.the-variants.{Field}
-use Rattle.fetch.proofs.Present.{paired-stop}
+use Rattle.fetched.proofs.Present.{paired-stop}
 use Rattle.stores.specs.Stores.{filled}
 use Rattle.stores.proofs.Inside.{sets-inside}
 use Rattle.stores.proofs.Room.{filled-room}
-use Rattle.choose.specs.Choice.{ascending, chosenParts}
+use Rattle.people.specs.Choice.{ascending, chosenParts}
 use Rattle.choose.specs.Chosen.{keptFormats, chosenFields, chosenBlock, chosenSite, chosenRecord}
-use Rattle.choose.specs.Sizes.{fieldsSize}
-use Rattle.choose.proofs.Choice.{length-chosenParts}
+use Rattle.people.specs.Sizes.{fieldsSize, keptSize}
+use Rattle.people.proofs.Choice.{length-ascending, length-chosenParts}
 use Rattle.choose.proofs.Fields.{fields-turn, length-chosenFields}
 
 -- of nobody no field is kept, of somebody all are
@@ -103,6 +104,14 @@ pub size-block : (t : Site) (cs s : List ℕ) → ascending (t .people) cs ≡ t
     ≡ fieldsSize (t .people) (length cs) (keptFormats cs (t .formats)) (t .border) (drop (t .border) (take (t .length) s))
 unfolding chosenBlock
 size-block t cs s h = length-chosenFields (t .people) cs (keptFormats cs (t .formats)) (t .border) (drop (t .border) (take (t .length) s)) h
+
+pub kept-block : (t : Site) (cs s : List ℕ) → ascending (t .people) cs ≡ true
+    → keptSize (t .people) (length cs) (keptFormats cs (t .formats)) (t .border) (drop (t .border) (take (t .length) s))
+    ≡ length (chosenBlock t cs s)
+unfolding keptSize
+kept-block t cs s h =
+    let few = length-ascending 0 (t .people) cs h in
+    rw (le-ltb (t .people) (length cs) (omega arith)) (sym (size-block t cs s h))
 
 pub length-chosenSite : (t : Site) (cs : List ℕ) (n : ℕ) (s : List ℕ) → t .border ≤ length s → length (chosenSite t cs n s) ≡ t .border
 unfolding chosenSite

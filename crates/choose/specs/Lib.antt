@@ -1,4 +1,2 @@
-pub mod Choice
 pub mod Chosen
 pub mod Choose
-pub mod Sizes

@@ -1,17 +1,16 @@
 // Choosing people: the record of some of the people, into a lent buffer.
-// Rests on record for reading, on fetch for the FORMAT fields, and on stores for what is written.
+// Rests on record for reading, on fetch for the FORMAT fields, on people for the choice, and on stores for what is written.
 ghost use mathlib.Core.Path.{_≡_};
 ghost use mathlib.Core.Bool.{true};
 ghost use mathlib.Core.List.{_++_};
 ghost use Prim.Native.Nat.{_+_, _-_, _*_, _^_, _<_, _≤_};
 ghost use lib.ListN.{drop, getD, length, take};
 ghost use lib.Seq.{sets};
-ghost use Rattle.types.specs.Rows.{widthOf};
 ghost use Rattle.fixed.specs.Layout.{idAt};
-ghost use Rattle.choose.specs.Choice.{ascending, chosenParts};
+ghost use Rattle.people.specs.Choice.{ascending, chosenParts};
+ghost use Rattle.people.specs.Sizes.{fieldsSize};
 ghost use Rattle.choose.specs.Chosen.{chosenFields, keptFormats, chosenBlock, chosenRecord};
 ghost use Rattle.choose.specs.Choose.{choosing, afterChoosing, chosenInside};
-ghost use Rattle.choose.specs.Sizes.{fieldsSize};
 use fetch::Found;
 use fetch::Kind;
 use fixed::Facts;
@@ -23,26 +22,6 @@ use values::Refusal;
 pub enum Choosing {
     Chosen(usize),
     Refused(Refusal),
-}
-
-// Whether person numbers are strictly ascending, each below the people.
-pub fn is_ascending(choice: &[u32], people: u32) -> bool
-    ensures { λ r. ⌜ r ≡ ascending people (now (choice .entry)) ⌝ }
-{
-    let mut least = 0;
-    let mut i = 0;
-    while i < choice.len() {
-        let c = choice[i];
-        if c < least {
-            return false;
-        }
-        if people <= c {
-            return false;
-        }
-        least = c + 1;
-        i += 1;
-    }
-    true
 }
 
 // A person number as a place: with it a product asks for no bound of its own.
@@ -98,42 +77,6 @@ fn put_people(buf: &mut [u8], at: usize, parts: &[u8], size: usize, choice: &[u3
     }
 }
 
-// The bytes of one person's part of a field.
-fn part_size(code: u8, len: u32) -> usize
-    ensures { λ r. ⌜ (r ≡ len * widthOf code) × (r < 2 ^ 40) ⌝ }
-{
-    let row = types::row_of(code);
-    len as usize * row.width as usize
-}
-
-// The bytes of so many FORMAT fields from a place on, where so many people are kept.
-fn fields_size(block: &[u8], from: usize, people: u32, kept: usize, count: u8) -> usize
-    requires { ⌜ kept ≤ people ⌝ }
-    ensures { λ r. ⌜ r ≡ fieldsSize people kept count from (drop from (now (block .entry))) ⌝ }
-    ensures { λ r. ⌜ r ≤ length (now (block .entry)) - from ⌝ }
-{
-    let mut sum = 0;
-    let mut left = count;
-    let mut at = from;
-    while 0 < left {
-        let f = fetch::field_at(block, at, Kind::Format, people);
-        let Found::Field {
-            key: _,
-            code,
-            len,
-            place,
-            stop,
-        } = f
-        else {
-            return sum;
-        };
-        sum += place - at + kept * part_size(code, len);
-        at = stop;
-        left -= 1;
-    }
-    sum
-}
-
 // Stores a FORMAT field at a place of the buffer: its key and descriptor as they stand, and the chosen people's elements.
 fn put_field(
     buf: &mut [u8],
@@ -180,7 +123,7 @@ fn put_fields(
         else {
             return;
         };
-        let size = part_size(code, len);
+        let size = people::part_size(code, len);
         put_field(buf, o, block, at, place, size, choice, people);
         o += place - at + choice.len() * size;
         at = stop;
@@ -237,11 +180,11 @@ pub fn choose(s: &[u8], facts: Facts, choice: &[u32], buf: &mut [u8]) -> Choosin
         return Choosing::Refused(record::reading_refusal(r));
     };
     let people = site.people;
-    if is_ascending(choice, people) {
+    if people::is_ascending(choice, people) {
         let border = site.border;
         let length = site.length;
         let count = kept_formats(choice, site.formats);
-        let size = fields_size(&s[..length], border, people, choice.len(), count);
+        let size = people::kept_size(&s[..length], border, people, choice.len(), count);
         if buf.len() < border + size {
             return Choosing::Refused(Refusal {
                 number: 13,

@@ -16,12 +16,12 @@ use Rattle.genotypes.specs.declared.Gt.{Gt}
 use Rattle.genotypes.specs.declared.Genotypes.the-variants.{Sound}
 use Rattle.record.specs.Reading.{reading, siteOf, genotypesOf}
 use Rattle.record.specs.declared.Reading.the-variants.{Accepted}
-use Rattle.fetch.proofs.Bytes.{part-of}
-use Rattle.fetch.proofs.There.{accepted}
-use Rattle.choose.specs.Choice.{ascending}
+use Rattle.fetched.proofs.Bytes.{part-of}
+use Rattle.fetched.proofs.There.{accepted}
+use Rattle.people.specs.Choice.{ascending}
 use Rattle.choose.specs.Chosen.{chosenFields, keptFormats, chosenBlock, chosenRecord}
-use Rattle.choose.proofs.Choice.{length-ascending}
-use Rattle.choose.proofs.Fields.{size-inside}
+use Rattle.people.proofs.Choice.{length-ascending}
+use Rattle.people.proofs.Sizes.{size-inside}
 use Rattle.fixed.proofs.Fits.{Fits, fixed-fits, fits-fixed}
 use Rattle.choose.proofs.Written.{length-chosenRecord, size-block}
 use Rattle.chosen.specs.Releases.{forPeople, releasedSite}

@@ -15,10 +15,10 @@ use Rattle.fixed.specs.declared.Site.{Site}
 use Rattle.genotypes.specs.declared.Gt.{Gt}
 use Rattle.record.specs.Reading.{reading}
 use Rattle.record.specs.declared.Reading.the-variants.{Accepted}
-use Rattle.choose.specs.Choice.{ascending}
+use Rattle.people.specs.Choice.{ascending}
 use Rattle.choose.specs.Choose.{choosing}
 use Rattle.choose.specs.Chosen.{chosenFields, keptFormats, chosenBlock, chosenSite, chosenRecord}
-use Rattle.choose.proofs.Choice.{ascends}
+use Rattle.people.proofs.Choice.{ascends}
 use Rattle.chosen.specs.Releases.{forPeople, releasedSite, composed}
 use Rattle.chosen.proofs.Choices.{ascending-composed, chosenParts-composed}
 use Rattle.chosen.proofs.Filled.{Filled, opened, filled}

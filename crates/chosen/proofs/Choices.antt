@@ -8,8 +8,8 @@ use native.Mathlib.Nat.{suc-mul, zero-mul}
 use lib.ListN.{length, getD, take, drop, length-drop}
 use lib.Seq.{drop-drop, take-add, take-at, drop-at, length-take-le}
 use borrow.Author.Tests.{le-ltb, lt-leb}
-use Rattle.choose.specs.Choice.{ascendingFrom, ascending, chosenParts}
-use Rattle.choose.proofs.Choice.{Ascends, ascends, part-inside, ascending-below}
+use Rattle.people.specs.Choice.{ascendingFrom, ascending, chosenParts}
+use Rattle.people.proofs.Choice.{Ascends, ascends, part-inside, ascending-below}
 use Rattle.chosen.specs.Releases.{peopleFrom, everybody, composed}
 
 -- a person before a choice that ascends from there on

@@ -24,8 +24,8 @@ use Rattle.record.specs.declared.Reading.the-variants.{Accepted}
 use Rattle.tally.specs.Tally.{callsOf, nobody, tallied}
 use Rattle.tally.specs.declared.Counting.the-variants.{Counted}
 use Rattle.tally.proofs.Parts.{callsOf-none, callsOf-part}
-use Rattle.choose.specs.Choice.{ascendingFrom, ascending, chosenParts}
-use Rattle.choose.proofs.Choice.{Ascends, ascends, part-inside, length-chosenParts}
+use Rattle.people.specs.Choice.{ascendingFrom, ascending, chosenParts}
+use Rattle.people.proofs.Choice.{Ascends, ascends, part-inside, length-chosenParts}
 use Rattle.choose.specs.Chosen.{chosenRecord}
 use Rattle.chosen.specs.Releases.{peopleFrom, everybody, forPeople, releasedSite}
 use Rattle.chosen.specs.Divisions.{Division, other}

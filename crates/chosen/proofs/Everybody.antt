@@ -15,7 +15,7 @@ use Rattle.fixed.specs.declared.Site.{Site}
 use Rattle.genotypes.specs.declared.Gt.{Gt}
 use Rattle.record.specs.Reading.{reading}
 use Rattle.record.specs.declared.Reading.the-variants.{Accepted}
-use Rattle.fetch.proofs.Bytes.{part-of}
+use Rattle.fetched.proofs.Bytes.{part-of}
 use Rattle.choose.specs.Chosen.{chosenFields, keptFormats, chosenBlock, chosenSite, chosenRecord}
 use Rattle.chosen.specs.Releases.{peopleFrom, everybody}
 use Rattle.chosen.proofs.Filled.{Filled, opened, filled}

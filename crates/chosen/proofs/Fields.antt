@@ -16,10 +16,10 @@ use Rattle.vectors.specs.Sound.{sound, judgedFrom, mostOf}
 use Rattle.vectors.specs.Vectors.{judged}
 use Rattle.vectors.specs.declared.Judged.{Judged}
 use Rattle.vectors.specs.declared.Judged.the-variants.{Sound, Refused as Unsound}
-use Rattle.fetch.proofs.Agree.{sound-there}
-use Rattle.fetch.proofs.Present.{present-typed}
-use Rattle.choose.specs.Choice.{ascending, chosenParts}
-use Rattle.choose.proofs.Choice.{length-chosenParts}
+use Rattle.fetched.proofs.Agree.{sound-there}
+use Rattle.fetched.proofs.Present.{present-typed}
+use Rattle.people.specs.Choice.{ascending, chosenParts}
+use Rattle.people.proofs.Choice.{length-chosenParts}
 use Rattle.chosen.proofs.Fronts.{present-front}
 use Rattle.chosen.proofs.Judging.{chosenParts-take, judged-chosenParts}
 

@@ -17,8 +17,8 @@ use Rattle.record.specs.Reading.{reading, genotypesOf}
 use Rattle.record.specs.declared.Reading.the-variants.{Accepted}
 use Rattle.fetch.specs.Fetch.{paired}
 use Rattle.fetch.specs.declared.Found.the-variants.{Field}
-use Rattle.fetch.proofs.FormatFields.{formats-field}
-use Rattle.fetch.proofs.There.{accepted}
+use Rattle.fetched.proofs.FormatFields.{formats-field}
+use Rattle.fetched.proofs.There.{accepted}
 use Rattle.fixed.proofs.Fits.{fixed-fits}
 use Rattle.chosen.proofs.Sites.{people-given}
 

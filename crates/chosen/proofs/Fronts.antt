@@ -23,8 +23,8 @@ use Rattle.values.specs.declared.Descriptor.the-variants.{Typed}
 use Rattle.values.specs.declared.Value.the-variants.{Present}
 use Rattle.fetch.specs.Fetch.{paired}
 use Rattle.fetch.specs.declared.Found.the-variants.{Field}
-use Rattle.fetch.proofs.Inside.{integer-inside}
-use Rattle.fetch.proofs.Present.{present-typed, paired-keyed}
+use Rattle.fetched.proofs.Inside.{integer-inside}
+use Rattle.fetched.proofs.Present.{present-typed, paired-keyed}
 
 -- the number at the front of a list is that of its bytes, whatever follows
 number-front : (w : ℕ) (l m : List ℕ) → w ≤ length l → number w (take w l ++ m) ≡ number w l

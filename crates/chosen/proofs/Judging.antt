@@ -15,9 +15,9 @@ use Rattle.types.specs.declared.Element.the-variants.{Plain, Missing, End, Rese
 use Rattle.vectors.specs.Vectors.{numbers, turned, follow, vector, andThen, vectors, judged}
 use Rattle.vectors.specs.declared.Judged.{Judged}
 use Rattle.vectors.specs.declared.Judged.the-variants.{Sound, Refused as Unsound}
-use Rattle.fetch.proofs.Bytes.{part-of}
-use Rattle.choose.specs.Choice.{ascendingFrom, chosenParts}
-use Rattle.choose.proofs.Choice.{ascends, part-inside, length-chosenParts}
+use Rattle.fetched.proofs.Bytes.{part-of}
+use Rattle.people.specs.Choice.{ascendingFrom, chosenParts}
+use Rattle.people.proofs.Choice.{ascends, part-inside, length-chosenParts}
 use Rattle.chosen.proofs.Numbers.{numbers-take}
 
 -- a vector that is sound at one place is sound at any

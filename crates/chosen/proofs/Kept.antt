@@ -12,8 +12,8 @@ use Rattle.types.specs.Rows.{widthOf}
 use Rattle.types.specs.declared.Use.the-variants.{Format}
 use Rattle.fetch.specs.Fetch.{paired}
 use Rattle.fetch.specs.declared.Found.the-variants.{Field}
-use Rattle.choose.specs.Choice.{ascending, chosenParts}
-use Rattle.choose.proofs.Choice.{length-chosenParts}
+use Rattle.people.specs.Choice.{ascending, chosenParts}
+use Rattle.people.proofs.Choice.{length-chosenParts}
 use Rattle.chosen.proofs.Filled.{Fill}
 use Rattle.chosen.proofs.Fronts.{paired-front}
 

@@ -11,8 +11,8 @@ use lib.Seq.{drop-drop, take-take, take-nil, take-at, drop-at, length-take-le}
 use Rattle.words.specs.Words.{number}
 use Rattle.types.specs.Elements.{shown}
 use Rattle.vectors.specs.Vectors.{numbers, shownNumbers}
-use Rattle.choose.specs.Choice.{ascendingFrom, chosenParts}
-use Rattle.choose.proofs.Choice.{ascends, part-inside}
+use Rattle.people.specs.Choice.{ascendingFrom, chosenParts}
+use Rattle.people.proofs.Choice.{ascends, part-inside}
 
 -- past the front of a part that goes on behind it
 drop-take : {A : Type 0} (w k : ℕ) (l : List A) → drop w (take (w + k) l) ≡ take k (drop w l)

@@ -23,9 +23,9 @@ use Rattle.record.specs.Shown.{kindOf, elementsOf, showing, fieldsShown, allele
 use Rattle.record.specs.declared.Reading.the-variants.{Accepted}
 use Rattle.fetch.specs.Fetch.{paired}
 use Rattle.fetch.specs.declared.Found.the-variants.{Field}
-use Rattle.fetch.proofs.Inside.{drop-past}
-use Rattle.fetch.proofs.Present.{paired-keyed, present-typed}
-use Rattle.choose.specs.Choice.{ascending, chosenParts}
+use Rattle.fetched.proofs.Inside.{drop-past}
+use Rattle.fetched.proofs.Present.{paired-keyed, present-typed}
+use Rattle.people.specs.Choice.{ascending, chosenParts}
 use Rattle.choose.specs.Chosen.{chosenFields, keptFormats, chosenBlock, chosenRecord}
 use Rattle.chosen.specs.Releases.{releasedSite, releasedField, releasedFields, released}
 use Rattle.chosen.proofs.Filled.{Filled, opened, filled}

@@ -12,7 +12,7 @@ use borrow.Author.Tests.{leb-true, leb-false}
 use Rattle.words.specs.Words.{number, bytes, Bytes}
 use Rattle.words.proofs.Words.{le-bound, length-bytes, number-bytes}
 use Rattle.fixed.specs.Layout.{field}
-use Rattle.fetch.proofs.Bytes.{part-of}
+use Rattle.fetched.proofs.Bytes.{part-of}
 use Rattle.chosen.proofs.Sets.{drop-sets}
 
 -- a store leaves what stands before it

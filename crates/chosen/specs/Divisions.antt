@@ -4,7 +4,7 @@ use mathlib.Core.Path.{_≡_}
 use mathlib.Core.List.{List}
 use mathlib.Core.Bool.{Bool, true, false}
 use Rattle.words.specs.Lists.{among}
-use Rattle.choose.specs.Choice.{ascending}
+use Rattle.people.specs.Choice.{ascending}
 
 abbrev pub other : Bool → Bool
 other true = false

@@ -6,7 +6,7 @@ use lib.ListN.{length, getD}
 use Rattle.fixed.specs.declared.Facts.{Facts}
 use Rattle.fixed.specs.declared.Site.{Site}
 use Rattle.record.specs.Shown.{Shown, Field}
-use Rattle.choose.specs.Choice.{chosenParts}
+use Rattle.people.specs.Choice.{chosenParts}
 use Rattle.choose.specs.Chosen.{keptFormats, chosenRecord}
 
 -- the header's facts, with so many people

@@ -1,7 +1,1 @@
-pub mod Agree
-pub mod Bytes
 pub mod Fields
-pub mod FormatFields
-pub mod Inside
-pub mod Present
-pub mod There

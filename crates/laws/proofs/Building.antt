@@ -2,7 +2,8 @@
 use mathlib.Core.Path.{_≡_}
 use mathlib.Core.List.{List, [], _∷_}
 use Prim.Native.Nat.{ℕ}
-use Rattle.build.specs.Values.{givenAs, writtenAs}
+use Rattle.append.specs.Values.{writtenAs}
+use Rattle.rules.specs.Values.{givenAs}
 use Rattle.built.specs.Records.{All}
 use Rattle.built.specs.Widths.{shownAgain}
 use Rattle.built.proofs.Builds.{wrote-record, drop-wrote, finished-reads, keeps-builds, keeps-tight, tight-reads, tight-again, wrote-tight}

@@ -18,7 +18,7 @@ use Rattle.record.specs.Reading.{siteOf, genotypesOf, reading}
 use Rattle.fetch.specs.Fetch.{paired, passing, past, toField, fieldIn, fieldOf, found, fetched}
 use Rattle.calls.specs.Calls.{slots, alleleOf, alleles, people, called, without, howMany, counters, tally, peopleOf, counted}
 use Rattle.tally.specs.Tally.{callsOf, tallied}
-use Rattle.choose.specs.Choice.{ascendingFrom, chosenParts}
+use Rattle.people.specs.Choice.{ascendingFrom, chosenParts}
 use Rattle.choose.specs.Chosen.{chosenFields, chosenBlock, chosenSite, chosenRecord}
 use Rattle.choose.specs.Choose.{choosing}
 use Rattle.laws.specs.Sample.{sample}

@@ -26,8 +26,10 @@ use Rattle.frames.specs.Text.{spaced}
 use Rattle.frames.specs.Frames.{callNumbers, acceptedLine, recordLine}
 use Rattle.encode.specs.Encode.{integerBytes, descriptorBytes, widest, markedAs, narrowed, elementsBytes, valueBytes}
 use Rattle.given.specs.Given.{vectorsGiven, elementsNumber, filtersNumber, alleleNumber}
-use Rattle.build.specs.Values.{givenBytes, pairBytes, givenNumber}
-use Rattle.build.specs.Turns.{fieldsNumber, frontBytes, keyNumber}
+use Rattle.append.specs.Values.{givenBytes, pairBytes}
+use Rattle.front.specs.Front.{fieldsNumber, frontBytes}
+use Rattle.rules.specs.Rules.{keyNumber}
+use Rattle.rules.specs.Values.{givenNumber}
 use Rattle.built.specs.Records.{joined, siteBytes, genotypeBytes, filledFront, recordBytes, Keeps}
 use Rattle.built.proofs.Builds.{keeps-tight}
 use Rattle.laws.specs.Sample.{Sample, facts, sample, sampleShown}

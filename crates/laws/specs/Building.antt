@@ -14,7 +14,7 @@ use Rattle.record.specs.Reading.{reading}
 use Rattle.record.specs.Shown.{Kind, Shown, shownOf}
 use Rattle.record.specs.declared.Reading.the-variants.{Accepted}
 use Rattle.encode.specs.Encode.{typeFor}
-use Rattle.build.specs.Values.{writtenAs}
+use Rattle.append.specs.Values.{writtenAs}
 use Rattle.built.specs.Records.{recordBytes, All, Fit, Keeps}
 use Rattle.built.specs.Runs.{Turn, turnsOf, gives, FitTurn, Finished}
 use Rattle.built.specs.Builds.{wrote, ReadsBack, Tight, Builds}

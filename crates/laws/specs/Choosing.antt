@@ -16,7 +16,7 @@ use Rattle.record.specs.declared.Reading.the-variants.{Accepted}
 use Rattle.calls.specs.Totals.{together}
 use Rattle.tally.specs.Tally.{tallied}
 use Rattle.tally.specs.declared.Counting.the-variants.{Counted}
-use Rattle.choose.specs.Choice.{ascending}
+use Rattle.people.specs.Choice.{ascending}
 use Rattle.choose.specs.Chosen.{chosenRecord}
 use Rattle.choose.specs.Choose.{choosing, afterChoosing}
 use Rattle.chosen.specs.Releases.{forPeople, releasedSite, released, everybody, composed}

@@ -33,9 +33,9 @@ use Rattle.genotypes.specs.declared.Genotypes.{Genotypes}
 use Rattle.genotypes.specs.declared.Genotypes.the-variants.{Sound, Refused as NoGenotypes}
 use Rattle.record.specs.Reading.{reading, afterFixed, afterSite, afterGenotypes, siteOf, genotypesOf}
 use Rattle.record.specs.declared.Reading.the-variants.{Accepted}
-use Rattle.fetch.proofs.Agree.{Went, went, times-passed, info-passed}
-use Rattle.fetch.proofs.Inside.{passing-later, past-later}
-use Rattle.fetch.proofs.There.{accepted, site-walk}
+use Rattle.fetched.proofs.Agree.{Went, went, times-passed, info-passed}
+use Rattle.fetched.proofs.Inside.{passing-later, past-later}
+use Rattle.fetched.proofs.There.{accepted, site-walk}
 use Rattle.fetch.specs.Fetch.{valueField, afterKey, paired, fieldStep, passing, past, toInfo, toField, fieldIn, fieldOf, found}
 use Rattle.fetch.specs.declared.Kind.the-variants.{Info as InfoKind}
 use Rattle.fetch.specs.declared.Found.{Found as Fetched}

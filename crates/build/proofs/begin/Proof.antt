@@ -6,17 +6,20 @@ use mir.Val.{ofZ}
 use borrow.Author.Tests.{eq-eqb, ne-eqb}
 use Rattle.words.proofs.Sign.{back}
 use Rattle.build.specs.Turns.{beginNumber, begun, afterBegin}
-use Rattle.build.proofs.Numbers.{begin-room, turned-refused}
+use Rattle.front.proofs.Fronts.{front-room}
+use Rattle.rules.proofs.Numbers.{begin-room}
+use Rattle.build.proofs.Numbers.{turned-refused}
 use borrow.Author.Needs.{needs}
 use Rattle.build.proofs.begin.Statement.{statement}
 use Rattle.build.proofs.begin.Tie as tie
 use Rattle.build.proofs.begin.Reads as reads
 use Rattle.build.proofs.begin.Lts as lts
 use Rattle.build.proofs.answered.Reads as answered-reads
-use Rattle.build.proofs.begin_number.Reads as begin-number-reads
+use Rattle.rules.proofs.begin_number.Reads as begin-number-reads
 use Rattle.build.proofs.begun_state.Reads as begun-state-reads
-use Rattle.build.proofs.put_front.Reads as put-front-reads
+use Rattle.front.proofs.put_front.Reads as put-front-reads
 use Rattle.words.proofs.bits.Reads as bits-reads
+use Rattle.build.proofs.rank_of.Reads as rank-of-reads
 
 -- src/lib.rt:258:9
 bits-requires : tie.Need-bits-requires
@@ -30,14 +33,17 @@ bits-requires-2 c κs = search needs
 bits-requires-3 : tie.Need-bits-requires-3
 bits-requires-3 c κs = search needs
 
+-- src/lib.rt:0:0
+rank-of-requires : tie.Need-rank-of-requires
+rank-of-requires c κs = search needs
+
 -- src/lib.rt:262:9
 begin-number-requires : tie.Need-begin-number-requires
 begin-number-requires c κs = search needs
 
 -- src/lib.rt:264:9
 put-front-requires : tie.Need-put-front-requires
-put-front-requires c κs =
-    begin-room _ _ _ _ _ _ _ (sym (c .before .before .begin-number .ensures) ∙ c .before .if1 .taken)
+put-front-requires c κs = search needs
 
 -- src/lib.rt:265:40
 begun-state-requires : tie.Need-begun-state-requires
@@ -53,17 +59,18 @@ same-length c = search needs
 
 -- src/lib.rt:265:9
 returns : tie.Need-returns
-unfolding begun afterBegin
+unfolding beginNumber begun afterBegin
 returns c =
-    let a = c .before .before .before .before .before .before .before .before .before .before .before .before .args in
-    let fits = c .before .before .before .before .before .before .before .before .before .before .before .before .fits in
-    let chrom : c .before .before .before .before .before .before .before .before .before .before .bits .result ≡ ofZ w32 (a .chrom) = rw (back (a .chrom) (fits .chrom)) at (c .before .before .before .before .before .before .before .before .before .before .bits .ensures) in
-    let pos : c .before .before .before .before .before .before .before .before .before .bits2 .result ≡ ofZ w32 (a .pos) = rw (back (a .pos) (fits .pos)) at (c .before .before .before .before .before .before .before .before .before .bits2 .ensures) in
-    let rlen : c .before .before .before .before .before .before .before .before .bits3 .result ≡ ofZ w32 (a .rlen) = rw (back (a .rlen) (fits .rlen)) at (c .before .before .before .before .before .before .before .before .bits3 .ensures) in
+    let a = c .before .before .before .before .before .before .before .before .before .before .before .before .before .args in
+    let fits = c .before .before .before .before .before .before .before .before .before .before .before .before .before .fits in
+    let chrom : c .before .before .before .before .before .before .before .before .before .before .before .bits .result ≡ ofZ w32 (a .chrom) = rw (back (a .chrom) (fits .chrom)) at (c .before .before .before .before .before .before .before .before .before .before .before .bits .ensures) in
+    let pos : c .before .before .before .before .before .before .before .before .before .before .bits2 .result ≡ ofZ w32 (a .pos) = rw (back (a .pos) (fits .pos)) at (c .before .before .before .before .before .before .before .before .before .before .bits2 .ensures) in
+    let rlen : c .before .before .before .before .before .before .before .before .before .bits3 .result ≡ ofZ w32 (a .rlen) = rw (back (a .rlen) (fits .rlen)) at (c .before .before .before .before .before .before .before .before .before .bits3 .ensures) in
+    let room = begin-room _ _ _ _ _ _ _ (sym (c .before .before .before .before .before .before .before .begin-number .ensures) ∙ c .before .before .before .before .before .before .if1 .taken) in
     let number : c .before .before .before .before .before .before .before .begin-number .result ≡ beginNumber (a .state .stage) (length (a .buf .now)) (a .facts) (ofZ w32 (a .chrom)) (ofZ w32 (a .pos)) (ofZ w32 (a .rlen)) (a .qual) =
-    rw (← chrom, ← pos, ← rlen) (c .before .before .before .before .before .before .before .begin-number .ensures) in (
+    rw (← chrom, ← pos, ← rlen, ← c .before .before .before .before .before .before .before .before .rank-of .ensures) (c .before .before .before .before .before .before .before .begin-number .ensures) in (
       c .answered .ensures ∙ rw (c .before .begun-state .ensures, number),
-      rw (← number, eq-eqb _ _ (c .before .before .before .before .before .before .if1 .taken)) (rw (← chrom, ← pos, ← rlen) (c .before .before .before .before .put-front .ensures)),
+      rw (← number, eq-eqb _ _ (c .before .before .before .before .before .before .if1 .taken)) (rw (← chrom, ← pos, ← rlen) (c .before .before .before .before .put-front .ensures ∙ front-room _ _ _ _ _ room)),
     )
 
 -- src/lib.rt:267:5
@@ -72,15 +79,15 @@ answered-requires-2 c κs = search needs
 
 -- src/lib.rt:246:1
 returns-2 : tie.Need-returns-2
-unfolding begun afterBegin
+unfolding beginNumber begun afterBegin
 returns-2 c =
-    let a = c .before .before .before .before .before .before .before .args in
-    let fits = c .before .before .before .before .before .before .before .fits in
-    let chrom : c .before .before .before .before .before .bits .result ≡ ofZ w32 (a .chrom) = rw (back (a .chrom) (fits .chrom)) at (c .before .before .before .before .before .bits .ensures) in
-    let pos : c .before .before .before .before .bits2 .result ≡ ofZ w32 (a .pos) = rw (back (a .pos) (fits .pos)) at (c .before .before .before .before .bits2 .ensures) in
-    let rlen : c .before .before .before .bits3 .result ≡ ofZ w32 (a .rlen) = rw (back (a .rlen) (fits .rlen)) at (c .before .before .before .bits3 .ensures) in
+    let a = c .before .before .before .before .before .before .before .before .args in
+    let fits = c .before .before .before .before .before .before .before .before .fits in
+    let chrom : c .before .before .before .before .before .before .bits .result ≡ ofZ w32 (a .chrom) = rw (back (a .chrom) (fits .chrom)) at (c .before .before .before .before .before .before .bits .ensures) in
+    let pos : c .before .before .before .before .before .bits2 .result ≡ ofZ w32 (a .pos) = rw (back (a .pos) (fits .pos)) at (c .before .before .before .before .before .bits2 .ensures) in
+    let rlen : c .before .before .before .before .bits3 .result ≡ ofZ w32 (a .rlen) = rw (back (a .rlen) (fits .rlen)) at (c .before .before .before .before .bits3 .ensures) in
     let number : c .before .before .begin-number .result ≡ beginNumber (a .state .stage) (length (a .buf .now)) (a .facts) (ofZ w32 (a .chrom)) (ofZ w32 (a .pos)) (ofZ w32 (a .rlen)) (a .qual) =
-    rw (← chrom, ← pos, ← rlen) (c .before .before .begin-number .ensures) in (
+    rw (← chrom, ← pos, ← rlen, ← c .before .before .before .rank-of .ensures) (c .before .before .begin-number .ensures) in (
       c .answered2 .ensures ∙ rw (← number) (turned-refused _ _ _ _ (c .before .if1 .left)),
       rw (← number, ne-eqb _ _ (c .before .if1 .left)),
     )
@@ -92,6 +99,7 @@ begin-spec =
     bits-requires
     bits-requires-2
     bits-requires-3
+    rank-of-requires
     begin-number-requires
     put-front-requires
     begun-state-requires

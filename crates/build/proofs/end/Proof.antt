@@ -1,17 +1,25 @@
 -- `build::end` meets its contract.
-use mathlib.Core.Path.{_∙_, sym}
-use borrow.Author.Tests.{eq-eqb, ne-eqb}
-use Rattle.build.specs.Turns.{built, afterEnd}
-use Rattle.build.proofs.Numbers.{end-room, turned-refused}
+use mathlib.Core.Path.{_∙_, sym, ap}
+use lib.ListN.{length}
+use borrow.Author.Tests.{eq-eqb, ne-eqb, le-ltb}
+use Rattle.build.specs.Turns.{filledIn, endNumber, built, afterEnd}
+use Rattle.rules.specs.Rules.{wrongEnd}
+use Rattle.rules.proofs.Numbers.{end-room}
+use Rattle.build.proofs.Numbers.{turned-refused}
 use borrow.Author.Needs.{needs}
 use Rattle.build.proofs.end.Statement.{statement}
 use Rattle.build.proofs.end.Tie as tie
 use Rattle.build.proofs.end.Reads as reads
 use Rattle.build.proofs.end.Lts as lts
 use Rattle.build.proofs.answered.Reads as answered-reads
-use Rattle.build.proofs.end_number.Reads as end-number-reads
-use Rattle.build.proofs.fill_in.Reads as fill-in-reads
+use Rattle.rules.proofs.end_number.Reads as end-number-reads
+use Rattle.front.proofs.fill_in.Reads as fill-in-reads
 use Rattle.build.proofs.moved.Reads as moved-reads
+use Rattle.build.proofs.rank_of.Reads as rank-of-reads
+
+-- src/lib.rt:0:0
+rank-of-requires : tie.Need-rank-of-requires
+rank-of-requires c κs = search needs
 
 -- src/lib.rt:338:9
 end-number-requires : tie.Need-end-number-requires
@@ -19,8 +27,7 @@ end-number-requires c κs = search needs
 
 -- src/lib.rt:340:9
 fill-in-requires : tie.Need-fill-in-requires
-fill-in-requires c κs =
-    end-room _ _ (sym (c .before .before .end-number .ensures) ∙ c .before .if1 .taken)
+fill-in-requires c κs = search needs
 
 -- src/lib.rt:342:13
 moved-requires : tie.Need-moved-requires
@@ -36,11 +43,12 @@ same-length c = search needs
 
 -- src/lib.rt:350:9
 returns : tie.Need-returns
-unfolding built afterEnd
+unfolding filledIn endNumber built afterEnd
 returns c =
-    let number = c .before .before .before .before .before .before .before .end-number .ensures in (
+    let room = end-room _ _ (sym (c .before .before .before .before .before .before .before .end-number .ensures) ∙ c .before .before .before .before .before .before .if1 .taken) in
+    let number = c .before .before .before .before .before .before .before .end-number .ensures ∙ ap (λ k. wrongEnd k (length (c .before .before .before .before .before .before .before .before .before .before .args .buf .now))) (c .before .before .before .before .before .before .before .before .rank-of .ensures) in (
       c .answered .ensures ∙ rw (c .before .moved .ensures, number),
-      rw (← number, eq-eqb _ _ (c .before .before .before .before .before .before .if1 .taken)) (c .before .before .before .before .fill-in .ensures),
+      rw (← number, eq-eqb _ _ (c .before .before .before .before .before .before .if1 .taken)) (rw (le-ltb _ _ room) at (c .before .before .before .before .fill-in .ensures)),
     )
 
 -- src/lib.rt:352:5
@@ -49,9 +57,9 @@ answered-requires-2 c κs = search needs
 
 -- src/lib.rt:333:1
 returns-2 : tie.Need-returns-2
-unfolding built afterEnd
+unfolding endNumber built afterEnd
 returns-2 c =
-    let number = c .before .before .end-number .ensures in (
+    let number = c .before .before .end-number .ensures ∙ ap (λ k. wrongEnd k (length (c .before .before .before .before .before .args .buf .now))) (c .before .before .before .rank-of .ensures) in (
       c .answered2 .ensures ∙ rw (← number) (turned-refused _ _ _ _ (c .before .if1 .left)),
       rw (← number, ne-eqb _ _ (c .before .if1 .left)),
     )
@@ -60,6 +68,7 @@ pub end-spec : {M : Type 1} → statement M
 end-spec =
     tie.close
     (tie.spec
+    rank-of-requires
     end-number-requires
     fill-in-requires
     moved-requires

@@ -1,24 +1,28 @@
 -- `build::filter` meets its contract.
-use mathlib.Core.Path.{_∙_, sym, ap}
+use mathlib.Core.Path.{_∙_, refl, ap}
 use mathlib.Core.List.{map}
 use native.Mathlib.Nat.{add-zero}
 use native.Mathlib.Omega.{arith}
-use lib.ListN.{length-map}
 use mir.Syntax.{w32}
 use mir.Val.{ofZ}
-use Rattle.record.specs.Shown.{integers}
-use Rattle.build.specs.Values.{givenBytes}
+use Rattle.rules.specs.Rules.{wrongFilter}
 use Rattle.build.specs.Turns.{filterRules, filterGiven, afterFilter}
 use Rattle.build.specs.declared.Stage.the-variants.{Filtered}
-use Rattle.build.proofs.Writing.{written-room, site-answer, after-written}
+use Rattle.append.proofs.Writing.{written-room}
+use Rattle.build.proofs.Answers.{site-answer, after-written}
 use borrow.Author.Needs.{needs}
 use Rattle.build.proofs.filter.Statement.{statement}
 use Rattle.build.proofs.filter.Tie as tie
 use Rattle.build.proofs.filter.Reads as reads
 use Rattle.build.proofs.filter.Lts as lts
-use Rattle.build.proofs.append_integers.Reads as append-integers-reads
-use Rattle.build.proofs.filter_number.Reads as filter-number-reads
+use Rattle.append.proofs.append_integers.Reads as append-integers-reads
+use Rattle.rules.proofs.filter_number.Reads as filter-number-reads
 use Rattle.build.proofs.site_turn.Reads as site-turn-reads
+use Rattle.build.proofs.rank_of.Reads as rank-of-reads
+
+-- src/lib.rt:0:0
+rank-of-requires : tie.Need-rank-of-requires
+rank-of-requires c κs = search needs
 
 -- src/lib.rt:712:9
 filter-number-requires : tie.Need-filter-number-requires
@@ -41,18 +45,17 @@ same-length c = search needs
 returns : tie.Need-returns
 unfolding filterRules filterGiven afterFilter
 returns c =
-    let st = c .before .before .before .before .before .before .before .args .state in
-    let xs = c .before .before .before .before .before .before .before .args .values .now in
-    let same = ap (λ n. givenBytes integers n (map (ofZ w32) xs)) (sym (length-map xs (ofZ w32))) in
-    let n = c .before .before .before .before .before .filter-number .ensures in (
-      c .site-turn .ensures ∙ site-answer st _ _ _ _ _ _ Filtered 0 0 _ _ (c .before .before .before .append-integers .ensures .0) same n (add-zero _) (add-zero _),
-      c .before .before .before .append-integers .ensures .1 ∙ after-written st _ _ _ _ _ same n,
+    let st = c .before .before .before .before .before .before .before .before .args .state in
+    let n = c .before .before .before .before .before .filter-number .ensures ∙ ap (λ k. wrongFilter k (c .before .before .before .before .before .before .before .before .args .state .facts .strings) (map (ofZ w32) (c .before .before .before .before .before .before .before .before .args .values .now))) (c .before .before .before .before .before .before .rank-of .ensures) in (
+      c .site-turn .ensures ∙ site-answer st _ _ _ _ _ _ Filtered 0 0 _ _ (c .before .before .before .append-integers .ensures .0) refl n (add-zero _) (add-zero _),
+      c .before .before .before .append-integers .ensures .1 ∙ after-written st _ _ _ _ _ refl n,
     )
 
 pub filter-spec : {M : Type 1} → statement M
 filter-spec =
     tie.close
     (tie.spec
+    rank-of-requires
     filter-number-requires
     append-integers-requires
     site-turn-requires

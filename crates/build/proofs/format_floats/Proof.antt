@@ -6,14 +6,15 @@ use Rattle.words.proofs.Sign.{back}
 use Rattle.record.specs.Shown.{floats}
 use Rattle.build.specs.Values.{givenNumber}
 use Rattle.build.specs.Turns.{formatGiven, afterFormat}
-use Rattle.build.proofs.Writing.{written-room, written-rules, plain-number, format-below, pair-eq, format-answer, after-written}
+use Rattle.append.proofs.Writing.{written-room, written-rules}
+use Rattle.build.proofs.Answers.{plain-number, format-below, pair-eq, format-answer, after-written}
 use borrow.Author.Needs.{needs}
 use Rattle.build.proofs.format_floats.Statement.{statement}
 use Rattle.build.proofs.format_floats.Tie as tie
 use Rattle.build.proofs.format_floats.Reads as reads
 use Rattle.build.proofs.format_floats.Lts as lts
-use Rattle.build.proofs.append_floats.Reads as append-floats-reads
-use Rattle.build.proofs.first_of.Reads as first-of-reads
+use Rattle.append.proofs.append_floats.Reads as append-floats-reads
+use Rattle.append.proofs.first_of.Reads as first-of-reads
 use Rattle.build.proofs.format_number.Reads as format-number-reads
 use Rattle.build.proofs.format_turn.Reads as format-turn-reads
 use Rattle.given.proofs.judge_floats.Reads as judge-floats-reads
@@ -59,7 +60,7 @@ returns c =
     let xs = a .bits .now in
     let key : c .before .before .before .before .before .before .before .before .bits .result ≡ ofZ w32 (a .key) = rw (back (a .key) (c .before .before .before .before .before .before .before .before .before .before .before .fits .key)) at (c .before .before .before .before .before .before .before .before .bits .ensures) in
     let n = plain-number st _ _ _ _ _ (a .len) _ floats xs refl key refl (c .before .before .before .before .before .first-of .ensures) (c .before .before .before .before .before .before .before .format-number .ensures) (c .before .before .before .before .before .before .judge-floats .ensures) in
-    let bs = pair-eq _ _ (a .len) (a .len) floats xs key refl in (
+    let bs = pair-eq _ _ _ floats xs key in (
       c .format-turn .ensures ∙ format-answer st _ _ _ _ _ _ _ _ (c .before .before .before .append-floats .ensures .0) bs n key,
       c .before .before .before .append-floats .ensures .1 ∙ after-written st _ _ _ _ _ bs n,
     )

@@ -8,14 +8,15 @@ use Rattle.words.proofs.Sign.{back}
 use Rattle.record.specs.Shown.{integers}
 use Rattle.build.specs.Values.{givenNumber}
 use Rattle.build.specs.Turns.{formatGiven, afterFormat}
-use Rattle.build.proofs.Writing.{written-room, written-rules, format-number, format-below, pair-eq, format-answer, after-written}
+use Rattle.append.proofs.Writing.{written-room, written-rules}
+use Rattle.build.proofs.Answers.{format-number, format-below, pair-eq, format-answer, after-written}
 use borrow.Author.Needs.{needs}
 use Rattle.build.proofs.format_integers.Statement.{statement}
 use Rattle.build.proofs.format_integers.Tie as tie
 use Rattle.build.proofs.format_integers.Reads as reads
 use Rattle.build.proofs.format_integers.Lts as lts
-use Rattle.build.proofs.append_integers.Reads as append-integers-reads
-use Rattle.build.proofs.first_of.Reads as first-of-reads
+use Rattle.append.proofs.append_integers.Reads as append-integers-reads
+use Rattle.append.proofs.first_of.Reads as first-of-reads
 use Rattle.build.proofs.format_number.Reads as format-number-reads
 use Rattle.build.proofs.format_turn.Reads as format-turn-reads
 use Rattle.build.proofs.most_for.Reads as most-for-reads
@@ -66,7 +67,7 @@ returns c =
     let xs = a .values .now in
     let key : c .before .before .before .before .before .before .before .before .before .bits .result ≡ ofZ w32 (a .key) = rw (back (a .key) (c .before .before .before .before .before .before .before .before .before .before .before .fits .key)) at (c .before .before .before .before .before .before .before .before .before .bits .ensures) in
     let n = format-number st _ _ _ _ _ (a .len) _ _ integers (map (ofZ w32) xs) key (sym (length-map xs (ofZ w32))) (c .before .before .before .before .before .first-of .ensures) (c .before .before .before .before .before .before .before .before .format-number .ensures) (c .before .before .before .before .before .before .judge-integers .ensures) (c .before .before .before .before .before .before .before .most-for .ensures) in
-    let bs = pair-eq _ _ (a .len) (a .len) integers (map (ofZ w32) xs) key refl in (
+    let bs = pair-eq _ _ _ integers (map (ofZ w32) xs) key in (
       c .format-turn .ensures ∙ format-answer st _ _ _ _ _ _ _ _ (c .before .before .before .append-integers .ensures .0) bs n key,
       c .before .before .before .append-integers .ensures .1 ∙ after-written st _ _ _ _ _ bs n,
     )

@@ -3,70 +3,51 @@ use mathlib.Core.Path.{_≡_, sym}
 use native.Mathlib.Omega.{arith}
 use lib.ListN.{length, length-map}
 use lib.Seq.{length-take-le}
-use Rattle.build.specs.Writing.{formatFront}
-use Rattle.build.proofs.Numbers.{first-eq}
+use Rattle.build.specs.Turns.{formatFront}
 use borrow.Author.Needs.{needs}
 use Rattle.build.proofs.format_number.Statement.{statement}
 use Rattle.build.proofs.format_number.Tie as tie
 use Rattle.build.proofs.format_number.Reads as reads
 use Rattle.build.proofs.format_number.Lts as lts
-use Rattle.build.proofs.first_of.Reads as first-of-reads
-use Rattle.build.proofs.format_count.Reads as format-count-reads
-use Rattle.build.proofs.format_key.Reads as format-key-reads
-use Rattle.build.proofs.format_shape.Reads as format-shape-reads
+use Rattle.build.proofs.rank_of.Reads as rank-of-reads
+use Rattle.rules.proofs.format_number.Reads as format-number-reads
 
--- src/lib.rt:774:13
+-- src/lib.rt:355:9
+rank-of-requires : tie.Need-rank-of-requires
+rank-of-requires c κs = search needs
+
+-- src/lib.rt:358:13
 cast-n : tie.Need-cast-n
 cast-n c = search needs
 
--- src/lib.rt:775:45
+-- src/lib.rt:363:9
 array-share-prefix-keys : tie.Need-array-share-prefix-keys
 array-share-prefix-keys c =
-    let q : length (c .before .before .before .args .state .keys) ≡ 256 = rw length-map at (c .before .before .before .good .0 .1 .1 .1 .1 .1 .1 .1 .1 .1 .0 .1 .0 .1) in
+    let q : length (c .before .before .before .before .args .state .keys) ≡ 256 = rw length-map at (c .before .before .before .before .good .0 .1 .1 .1 .1 .1 .1 .1 .1 .1 .0 .1 .0 .1) in
     omega (arith, q)
 
--- src/lib.rt:775:45
-slice-aggregate-format-key : tie.Need-slice-aggregate-format-key
-slice-aggregate-format-key c =
-    let q : length (c .before .before .before .before .args .state .keys) ≡ 256 = rw length-map at (c .before .before .before .before .good .0 .1 .1 .1 .1 .1 .1 .1 .1 .1 .0 .1 .0 .1) in
+-- src/lib.rt:363:9
+slice-aggregate-format-number : tie.Need-slice-aggregate-format-number
+slice-aggregate-format-number c =
+    let q : length (c .before .before .before .before .before .args .state .keys) ≡ 256 = rw length-map at (c .before .before .before .before .before .good .0 .1 .1 .1 .1 .1 .1 .1 .1 .1 .0 .1 .0 .1) in
     sym (length-take-le _ _ (omega (arith, q)))
 
--- src/lib.rt:775:9
-format-key-requires : tie.Need-format-key-requires
-format-key-requires c κs = search needs
+-- src/lib.rt:359:5
+format-number-requires : tie.Need-format-number-requires
+format-number-requires c κs = search needs
 
--- src/lib.rt:776:9
-format-shape-requires : tie.Need-format-shape-requires
-format-shape-requires c κs = search needs
-
--- src/lib.rt:777:9
-format-count-requires : tie.Need-format-count-requires
-format-count-requires c κs = search needs
-
--- src/lib.rt:778:20
-first-of-requires : tie.Need-first-of-requires
-first-of-requires c κs = search needs
-
--- src/lib.rt:778:5
-first-of-requires-2 : tie.Need-first-of-requires-2
-first-of-requires-2 c κs = search needs
-
--- src/lib.rt:768:1
+-- src/lib.rt:351:1
 returns : tie.Need-returns
 unfolding formatFront
-returns c =
-    first-eq _ _ _ _ _ (c .first-of2 .ensures) (c .before .before .format-count .ensures) (first-eq _ _ _ _ _ (c .before .first-of .ensures) (c .before .before .before .before .format-key .ensures) (c .before .before .before .format-shape .ensures))
+returns c = rw (← c .before .before .before .before .before .rank-of .ensures) (c .format-number .ensures)
 
 pub format-number-spec : {M : Type 1} → statement M
 format-number-spec =
     tie.close
     (tie.spec
+    rank-of-requires
     cast-n
     array-share-prefix-keys
-    slice-aggregate-format-key
-    format-key-requires
-    format-shape-requires
-    format-count-requires
-    first-of-requires
-    first-of-requires-2
+    slice-aggregate-format-number
+    format-number-requires
     returns)

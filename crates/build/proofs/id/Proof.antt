@@ -1,18 +1,25 @@
 -- `build::id` meets its contract.
-use mathlib.Core.Path.{_∙_, refl}
+use mathlib.Core.Path.{_∙_, refl, ap}
 use native.Mathlib.Nat.{add-zero}
 use native.Mathlib.Omega.{arith}
+use Rattle.rules.specs.Rules.{wrongId}
 use Rattle.build.specs.Turns.{idNumber, idGiven, afterId}
 use Rattle.build.specs.declared.Stage.the-variants.{Named}
-use Rattle.build.proofs.Writing.{written-room, site-answer, after-written}
+use Rattle.append.proofs.Writing.{written-room}
+use Rattle.build.proofs.Answers.{site-answer, after-written}
 use borrow.Author.Needs.{needs}
 use Rattle.build.proofs.id.Statement.{statement}
 use Rattle.build.proofs.id.Tie as tie
 use Rattle.build.proofs.id.Reads as reads
 use Rattle.build.proofs.id.Lts as lts
-use Rattle.build.proofs.append_text.Reads as append-text-reads
-use Rattle.build.proofs.id_number.Reads as id-number-reads
+use Rattle.append.proofs.append_text.Reads as append-text-reads
+use Rattle.rules.proofs.id_number.Reads as id-number-reads
 use Rattle.build.proofs.site_turn.Reads as site-turn-reads
+use Rattle.build.proofs.rank_of.Reads as rank-of-reads
+
+-- src/lib.rt:0:0
+rank-of-requires : tie.Need-rank-of-requires
+rank-of-requires c κs = search needs
 
 -- src/lib.rt:657:9
 id-number-requires : tie.Need-id-number-requires
@@ -35,8 +42,8 @@ same-length c = search needs
 returns : tie.Need-returns
 unfolding idNumber idGiven afterId
 returns c =
-    let st = c .before .before .before .before .before .before .before .before .args .state in
-    let n = c .before .before .before .before .before .id-number .ensures in (
+    let st = c .before .before .before .before .before .before .before .before .before .args .state in
+    let n = c .before .before .before .before .before .id-number .ensures ∙ ap (λ k. wrongId k (c .before .before .before .before .before .before .before .before .before .args .part .now)) (c .before .before .before .before .before .before .rank-of .ensures) in (
       c .site-turn .ensures ∙ site-answer st _ _ _ _ _ _ Named 0 0 _ _ (c .before .before .before .append-text .ensures .0) refl n (add-zero _) (add-zero _),
       c .before .before .before .append-text .ensures .1 ∙ after-written st _ _ _ _ _ refl n,
     )
@@ -44,4 +51,4 @@ returns c =
 pub id-spec : {M : Type 1} → statement M
 id-spec =
     tie.close
-    (tie.spec id-number-requires append-text-requires site-turn-requires same-length returns)
+    (tie.spec rank-of-requires id-number-requires append-text-requires site-turn-requires same-length returns)

@@ -9,14 +9,15 @@ use Rattle.record.specs.Shown.{text}
 use Rattle.build.specs.Values.{givenNumber}
 use Rattle.build.specs.Turns.{infoGiven, afterInfo}
 use Rattle.build.specs.declared.Stage.the-variants.{Infos}
-use Rattle.build.proofs.Writing.{written-room, written-rules, info-number, info-below, pair-eq, site-answer, after-written}
+use Rattle.append.proofs.Writing.{written-room, written-rules}
+use Rattle.build.proofs.Answers.{info-number, info-below, pair-eq, site-answer, after-written}
 use borrow.Author.Needs.{needs}
 use Rattle.build.proofs.info_text.Statement.{statement}
 use Rattle.build.proofs.info_text.Tie as tie
 use Rattle.build.proofs.info_text.Reads as reads
 use Rattle.build.proofs.info_text.Lts as lts
-use Rattle.build.proofs.append_text.Reads as append-text-reads
-use Rattle.build.proofs.first_of.Reads as first-of-reads
+use Rattle.append.proofs.append_text.Reads as append-text-reads
+use Rattle.append.proofs.first_of.Reads as first-of-reads
 use Rattle.build.proofs.info_key.Reads as info-key-reads
 use Rattle.build.proofs.site_turn.Reads as site-turn-reads
 use Rattle.given.proofs.judge_text.Reads as judge-text-reads
@@ -62,7 +63,7 @@ returns c =
     let xs = a .part .now in
     let key : c .before .before .before .before .before .before .before .before .bits .result ≡ ofZ w32 (a .key) = rw (back (a .key) (c .before .before .before .before .before .before .before .before .before .before .before .fits .key)) at (c .before .before .before .before .before .before .before .before .bits .ensures) in
     let n = info-number st _ _ _ _ _ _ text xs key refl (c .before .before .before .before .before .first-of .ensures) (c .before .before .before .before .before .before .before .info-key .ensures) (c .before .before .before .before .before .before .judge-text .ensures) in
-    let bs = pair-eq _ _ _ _ text xs key refl in (
+    let bs = pair-eq _ _ _ text xs key in (
       c .site-turn .ensures ∙ site-answer st _ _ _ _ _ _ Infos 0 1 _ _ (c .before .before .before .append-text .ensures .0) bs n (add-zero _) refl,
       c .before .before .before .append-text .ensures .1 ∙ after-written st _ _ _ _ _ bs n,
     )

@@ -7,16 +7,15 @@ use lib.Seq.{length-take-le}
 use borrow.Author.Tests.{lt-ltb, le-ltb}
 use Rattle.choose.specs.Chosen.{chosenBlock, chosenRecord}
 use Rattle.choose.specs.Choose.{choosing, afterChoosing}
-use Rattle.choose.proofs.Choice.{length-ascending}
 use Rattle.choose.proofs.People.{people-bound}
-use Rattle.choose.proofs.Written.{length-chosenRecord, size-block}
+use Rattle.choose.proofs.Written.{length-chosenRecord, kept-block}
 use borrow.Author.Needs.{needs}
 use Rattle.choose.proofs.choose.Statement.{statement}
 use Rattle.choose.proofs.choose.Tie as tie
 use Rattle.choose.proofs.choose.Reads as reads
 use Rattle.choose.proofs.choose.Lts as lts
-use Rattle.choose.proofs.fields_size.Reads as fields-size-reads
-use Rattle.choose.proofs.is_ascending.Reads as is-ascending-reads
+use Rattle.people.proofs.kept_size.Reads as kept-size-reads
+use Rattle.people.proofs.is_ascending.Reads as is-ascending-reads
 use Rattle.choose.proofs.kept_formats.Reads as kept-formats-reads
 use Rattle.choose.proofs.put_record.Reads as put-record-reads
 use Rattle.record.proofs.read.Reads as read-reads
@@ -54,20 +53,14 @@ kept-formats-requires : tie.Need-kept-formats-requires
 kept-formats-requires c κs = search needs
 
 -- src/lib.rt:244:32
-slice-aggregate-fields-size : tie.Need-slice-aggregate-fields-size
-slice-aggregate-fields-size c =
+slice-aggregate-kept-size : tie.Need-slice-aggregate-kept-size
+slice-aggregate-kept-size c =
     let i = rw (c .before .before .before .before .before .r .given .1) at (c .before .before .before .before .before .before .before .read .ensures .1) in
     sym (length-take-le _ _ (omega (arith, i)))
 
 -- src/lib.rt:244:13
-fields-size-requires : tie.Need-fields-size-requires
-fields-size-requires c κs =
-    let a = c .before .before .before .before .before .before .before .before .before .before .before .args in
-    let v = c .before .before .before .before .before .r .given in
-    let site = v .0 .0 in
-    let asc = sym (c .before .before .before .is-ascending .ensures) ∙ c .before .before .if1 .taken in
-    let few = length-ascending 0 (site .people) (a .choice .now) asc in
-    omega (arith, few)
+kept-size-requires : tie.Need-kept-size-requires
+kept-size-requires c κs = search needs
 
 -- src/lib.rt:245:24
 add-if2 : tie.Need-add-if2
@@ -76,7 +69,7 @@ add-if2 c =
     let v = c .before .before .before .before .before .before .r .given in
     let site = v .0 .0 in
     let i = rw (v .1) at (c .before .before .before .before .before .before .before .before .read .ensures .1) in
-    let small = rw (length-take-le (site .length) (a .s .now) (omega (arith, i))) at (c .fields-size .ensures .1) in
+    let small = rw (length-take-le (site .length) (a .s .now) (omega (arith, i))) at (c .kept-size .ensures .1) in
     omega (arith, i, small)
 
 -- src/lib.rt:246:13
@@ -90,8 +83,8 @@ returns-2 c =
     let i = rw (v .1) at (c .before .before .before .before .before .before .before .before .before .read .ensures .1) in
     let asc = sym (c .before .before .before .before .before .is-ascending .ensures) ∙ c .before .before .before .before .if1 .taken in
     let block = chosenBlock site (a .choice .now) (a .s .now) in
-    let known = size-block site (a .choice .now) (a .s .now) asc in
-    let size : c .before .fields-size .result ≡ length block = c .before .fields-size .ensures .0 ∙ rw (c .before .before .before .kept-formats .ensures) (sym known) in
+    let known = kept-block site (a .choice .now) (a .s .now) asc in
+    let size : c .before .kept-size .result ≡ length block = c .before .kept-size .ensures .0 ∙ rw (c .before .before .before .kept-formats .ensures) known in
     let whole = length-chosenRecord site (a .choice .now) (a .s .now) (omega (arith, i)) in
     let q : length (a .buf .now) < length (chosenRecord site (a .choice .now) (a .s .now)) = omega (arith, size, whole) in
     (rw (h, asc, lt-ltb _ _ q), (tt, rw (h, asc, lt-ltb _ _ q)))
@@ -106,9 +99,9 @@ put-record-requires c κs =
     let i = rw (v .1) at (c .before .before .before .before .before .before .before .before .before .before .read .ensures .1) in
     let asc = sym (c .before .before .before .before .before .before .is-ascending .ensures) ∙ c .before .before .before .before .before .if1 .taken in
     let block = chosenBlock site (a .choice .now) (a .s .now) in
-    let known = size-block site (a .choice .now) (a .s .now) asc in
-    let size : c .before .before .fields-size .result ≡ length block = c .before .before .fields-size .ensures .0 ∙ rw (c .before .before .before .before .kept-formats .ensures) (sym known) in
-    let small = rw (length-take-le (site .length) (a .s .now) (omega (arith, i))) at (c .before .before .fields-size .ensures .1) in
+    let known = kept-block site (a .choice .now) (a .s .now) asc in
+    let size : c .before .before .kept-size .result ≡ length block = c .before .before .kept-size .ensures .0 ∙ rw (c .before .before .before .before .kept-formats .ensures) known in
+    let small = rw (length-take-le (site .length) (a .s .now) (omega (arith, i))) at (c .before .before .kept-size .ensures .1) in
     let bound = people-bound (a .facts) (a .s .now) site (v .0 .1 .0) h in
     (asc, bound, omega (arith, i), omega (arith, i), omega (arith, i), omega (arith, i, small), size, omega (arith, i))
 
@@ -119,7 +112,7 @@ add-t16 c =
     let v = c .before .before .before .before .before .before .before .before .before .before .before .r .given in
     let site = v .0 .0 in
     let i = rw (v .1) at (c .before .before .before .before .before .before .before .before .before .before .before .before .before .read .ensures .1) in
-    let small = rw (length-take-le (site .length) (a .s .now) (omega (arith, i))) at (c .before .before .before .before .before .fields-size .ensures .1) in
+    let small = rw (length-take-le (site .length) (a .s .now) (omega (arith, i))) at (c .before .before .before .before .before .kept-size .ensures .1) in
     omega (arith, i, small)
 
 -- src/lib.rt:252:9
@@ -137,9 +130,9 @@ returns-3 c =
     let i = rw (v .1) at (c .before .before .before .before .before .before .before .before .before .before .before .before .before .read .ensures .1) in
     let asc = sym (c .before .before .before .before .before .before .before .before .before .is-ascending .ensures) ∙ c .before .before .before .before .before .before .before .before .if1 .taken in
     let block = chosenBlock site (a .choice .now) (a .s .now) in
-    let known = size-block site (a .choice .now) (a .s .now) asc in
-    let size : c .before .before .before .before .before .fields-size .result ≡ length block = c .before .before .before .before .before .fields-size .ensures .0 ∙ rw (c .before .before .before .before .before .before .before .kept-formats .ensures) (sym known) in
-    let small = rw (length-take-le (site .length) (a .s .now) (omega (arith, i))) at (c .before .before .before .before .before .fields-size .ensures .1) in
+    let known = kept-block site (a .choice .now) (a .s .now) asc in
+    let size : c .before .before .before .before .before .kept-size .result ≡ length block = c .before .before .before .before .before .kept-size .ensures .0 ∙ rw (c .before .before .before .before .before .before .before .kept-formats .ensures) known in
+    let small = rw (length-take-le (site .length) (a .s .now) (omega (arith, i))) at (c .before .before .before .before .before .kept-size .ensures .1) in
     let whole = length-chosenRecord site (a .choice .now) (a .s .now) (omega (arith, i)) in
     let q : length (chosenRecord site (a .choice .now) (a .s .now)) ≤ length (a .buf .now) = omega (arith, size, whole) in
     (rw (h, asc, le-ltb _ _ q, whole, size), (omega (arith, i, small), rw (h, asc, le-ltb _ _ q) (c .before .before .put-record .ensures)))
@@ -164,8 +157,8 @@ choose-spec =
     returns
     is-ascending-requires
     kept-formats-requires
-    slice-aggregate-fields-size
-    fields-size-requires
+    slice-aggregate-kept-size
+    kept-size-requires
     add-if2
     returns-2
     put-record-requires

@@ -6,15 +6,16 @@ use lib.ListN.{length, drop}
 use lib.Seq.{sets}
 use Rattle.types.specs.Rows.{widthOf}
 use Rattle.choose.specs.Chosen.{chosenFields}
-use Rattle.choose.specs.Sizes.{fieldsSize}
-use Rattle.choose.proofs.Fields.{size-turn, fields-none}
+use Rattle.people.specs.Sizes.{fieldsSize}
+use Rattle.people.proofs.Sizes.{size-turn}
+use Rattle.choose.proofs.Fields.{fields-none}
 use Rattle.choose.proofs.Written.{parts-stop, field-stored}
 use borrow.Author.Needs.{needs}
 use Rattle.choose.proofs.put_fields.Statement.{statement}
 use Rattle.choose.proofs.put_fields.Tie as tie
 use Rattle.choose.proofs.put_fields.Reads as reads
 use Rattle.choose.proofs.put_fields.Lts as lts
-use Rattle.choose.proofs.part_size.Reads as part-size-reads
+use Rattle.people.proofs.part_size.Reads as part-size-reads
 use Rattle.choose.proofs.put_field.Reads as put-field-reads
 use Rattle.fetch.proofs.field_at.Reads as field-at-reads
 

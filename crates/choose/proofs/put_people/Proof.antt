@@ -6,7 +6,7 @@ use native.Mathlib.Omega.{arith}
 use native.Mathlib.Nat.{sub-zero}
 use lib.ListN.{length, drop, getD, drop-of-length-le}
 use lib.Seq.{sets}
-use Rattle.choose.specs.Choice.{chosenParts}
+use Rattle.people.specs.Choice.{chosenParts}
 use Rattle.choose.proofs.Stretches.{stretch-inside, stretch-room, stretch-stored}
 use borrow.Author.Needs.{needs}
 use Rattle.choose.proofs.put_people.Statement.{statement}

@@ -3,7 +3,7 @@ use mathlib.Core.Path.{_≡_, _∙_, sym}
 use native.Mathlib.Omega.{arith}
 use lib.Seq.{length-take-le}
 use Rattle.choose.specs.Chosen.{chosenBlock}
-use Rattle.choose.proofs.Choice.{length-ascending}
+use Rattle.people.proofs.Choice.{length-ascending}
 use Rattle.choose.proofs.Written.{record-stored, size-block}
 use borrow.Author.Needs.{needs}
 use Rattle.choose.proofs.put_record.Statement.{statement}

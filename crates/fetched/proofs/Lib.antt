@@ -1,0 +1,6 @@
+pub mod Agree
+pub mod Bytes
+pub mod FormatFields
+pub mod Inside
+pub mod Present
+pub mod There

@@ -1,0 +1,1 @@
+// What holds of fetching, as theorems over the definitions of fetching and of reading: no code.

@@ -1,0 +1,43 @@
+-- `rules::end_number` meets its contract.
+use Rattle.rules.specs.Rules.{wrongEnd}
+use borrow.Author.Needs.{needs}
+use Rattle.rules.proofs.end_number.Statement.{statement}
+use Rattle.rules.proofs.end_number.Tie as tie
+use Rattle.rules.proofs.end_number.Reads as reads
+use Rattle.rules.proofs.end_number.Lts as lts
+use Rattle.append.proofs.first_of.Reads as first-of-reads
+use Rattle.rules.proofs.order_number.Reads as order-number-reads
+use Rattle.rules.proofs.reach_number.Reads as reach-number-reads
+
+-- src/lib.rt:331:9
+order-number-requires : tie.Need-order-number-requires
+order-number-requires c κs = search needs
+
+-- src/lib.rt:332:28
+add-reach-number : tie.Need-add-reach-number
+add-reach-number c = search needs
+
+-- src/lib.rt:332:9
+reach-number-requires : tie.Need-reach-number-requires
+reach-number-requires c κs = search needs
+
+-- src/lib.rt:330:5
+first-of-requires : tie.Need-first-of-requires
+first-of-requires c κs = search needs
+
+-- src/lib.rt:327:1
+-- fill: 45cd6e1b
+returns : tie.Need-returns
+unfolding wrongEnd
+returns c =
+    simp (← c .before .before .order-number .ensures, ← c .before .reach-number .ensures, c .first-of .ensures)
+
+pub end-number-spec : {M : Type 1} → statement M
+end-number-spec =
+    tie.close
+    (tie.spec
+    order-number-requires
+    add-reach-number
+    reach-number-requires
+    first-of-requires
+    returns)

@@ -1,0 +1,28 @@
+-- `rules::gt_number` meets its contract.
+use borrow.Author.Tests.{eq-eqb, ne-eqb}
+use Rattle.rules.specs.Rules.{gtNumber}
+use Rattle.rules.proofs.gt_number.Statement.{statement}
+use Rattle.rules.proofs.gt_number.Tie as tie
+use Rattle.rules.proofs.gt_number.Reads as reads
+use Rattle.rules.proofs.gt_number.Lts as lts
+
+-- src/lib.rt:410:13
+-- fill: c9365741
+returns : tie.Need-returns
+unfolding gtNumber
+returns c = simp (eq-eqb _ _ (c .before .if1 .taken), c .if2 .taken)
+
+-- src/lib.rt:412:9
+-- fill: 0c49dea9
+returns-2 : tie.Need-returns-2
+unfolding gtNumber
+returns-2 c = simp (eq-eqb _ _ (c .before .if1 .taken), c .if2 .left)
+
+-- src/lib.rt:405:1
+-- fill: 286c95e6
+returns-3 : tie.Need-returns-3
+unfolding gtNumber
+returns-3 c = simp (ne-eqb _ _ (c .if1 .left))
+
+pub gt-number-spec : {M : Type 1} → statement M
+gt-number-spec = tie.close (tie.spec returns returns-2 returns-3)

@@ -1,0 +1,27 @@
+-- `rules::key_number` meets its contract.
+use Rattle.rules.specs.Rules.{keyNumber}
+use borrow.Author.Needs.{needs}
+use Rattle.rules.proofs.key_number.Statement.{statement}
+use Rattle.rules.proofs.key_number.Tie as tie
+use Rattle.rules.proofs.key_number.Reads as reads
+use Rattle.rules.proofs.key_number.Lts as lts
+use Rattle.words.proofs.is_outside.Reads as is-outside-reads
+
+-- src/lib.rt:121:8
+is-outside-requires : tie.Need-is-outside-requires
+is-outside-requires c κs = search needs
+
+-- src/lib.rt:122:9
+-- fill: 77b8579c
+returns : tie.Need-returns
+unfolding keyNumber
+returns c = simp (← c .before .is-outside .ensures, c .if1 .taken)
+
+-- src/lib.rt:118:1
+-- fill: 9acc659b
+returns-2 : tie.Need-returns-2
+unfolding keyNumber
+returns-2 c = simp (← c .before .is-outside .ensures, c .if1 .left)
+
+pub key-number-spec : {M : Type 1} → statement M
+key-number-spec = tie.close (tie.spec is-outside-requires returns returns-2)
