@@ -1,0 +1,47 @@
+-- How repeats are found: a window is a stretch of 4,194,304 offsets, kept as bits, 32 in a number. Rests on words' lists.
+use Prim.Native.Nat.{ℕ, zero, suc, _+_, _/_, _%_, _^_, _<_, _≤_}
+use mathlib.Core.Path.{_≡_}
+use mathlib.Core.Logic.{_⊎_}
+use mathlib.Core.List.{List, [], _∷_}
+use mathlib.Core.Bool.{Bool, true, false}
+use lib.Dec.{eqb}
+use lib.ListN.{length, getD, set}
+use Rattle.words.specs.Lists.{among}
+use Rattle.words.specs.Pick.{pick}
+
+-- the first n numbers, the last of them first
+unfoldable pub earlier : ℕ → List ℕ → List ℕ
+earlier zero xs = []
+earlier (suc n) xs = getD xs n 0 ∷ earlier n xs
+
+-- whether the number at an index stood earlier
+unfoldable pub stood : List ℕ → ℕ → Bool
+stood xs i = among (getD xs i 0) (earlier i xs)
+
+-- no number is above the most
+abbrev pub UpTo : ℕ → List ℕ → Type 0
+UpTo most xs = (i : ℕ) → i < length xs → getD xs i 0 ≤ most
+
+-- whether an offset's bit is set, and the bits with it set
+unfoldable pub held : List ℕ → ℕ → Bool
+held bits y = eqb (getD bits (y / 32) 0 / 2 ^ (y % 32) % 2) 1
+
+unfoldable pub marked : List ℕ → ℕ → List ℕ
+marked bits y = set bits (y / 32) (getD bits (y / 32) 0 + 2 ^ (y % 32))
+
+-- whether an offset of a window is noted, and the bits after it is
+unfoldable pub noted : ℕ → ℕ → List ℕ → Bool
+noted window x bits = pick (eqb (x / 4194304) window) (held bits (x % 4194304)) false
+
+unfoldable pub noting : ℕ → ℕ → List ℕ → List ℕ
+noting window x bits = pick (eqb (x / 4194304) window) (pick (held bits (x % 4194304)) bits (marked bits (x % 4194304))) bits
+
+-- a bound for the first repeat: a repeat, where it is not the bound that was, and no number of the window that stands before it is one
+abbrev pub Bounded : ℕ → ℕ → List ℕ → ℕ → Type 0
+Bounded window bound xs r =
+    (r ≤ bound) × ((r ≡ bound) ⊎ (stood xs r ≡ true)) × ((i : ℕ) → i < r → getD xs i 0 / 4194304 ≡ window → stood xs i ≡ false)
+
+-- the same for all windows below one
+abbrev pub Below : ℕ → ℕ → List ℕ → Type 0
+Below window bound xs =
+    (bound ≤ length xs) × ((bound ≡ length xs) ⊎ (stood xs bound ≡ true)) × ((i : ℕ) → i < bound → getD xs i 0 / 4194304 < window → stood xs i ≡ false)
