@@ -2,14 +2,14 @@
 -- specs/Repeats and specs/Windows.
 use mathlib.Core.Path.{_≡_, refl, sym, _∙_, ap}
 use mathlib.Core.Logic.{_⊎_, inl, inr, ⊎-elim}
-use mathlib.Core.List.{List, [], _∷_}
+use mathlib.Core.List.{List, [], _∷_, map}
 use mathlib.Core.Bool.{Bool, true, false}
 use Prim.Native.Nat.{ℕ, zero, suc, _+_, _-_, _/_, _<_, _≤_}
 use native.Mathlib.Omega.{arith}
 use native.Mathlib.Numerals.{add-one, sub-one}
 use borrow.Author.Tests.{eqb-true, eqb-false}
 use lib.Dec.{eqb, leb}
-use lib.ListN.{length, getD, drop, drop-of-length-le}
+use lib.ListN.{length, getD, take, drop, drop-of-length-le}
 use lib.Seq.{drop-cons}
 use Rattle.words.specs.Lists.{among}
 use Rattle.words.specs.Pick.{pick}
@@ -100,3 +100,28 @@ bound-end xs window bound most u h b =
 -- before the first window
 pub bound-start : (xs : List ℕ) (bound : ℕ) → bound ≡ length xs → Below 0 bound xs
 bound-start xs bound e = (omega arith, inl e, λ i h k. absurd (omega (arith, k)))
+
+-- a repeat among the first numbers is the first of all
+repeat-after-early : (n : ℕ) (earlier xs : List ℕ) → n ≤ length xs → repeatAfter earlier (take n xs) < n
+    → repeatAfter earlier (take n xs) ≡ repeatAfter earlier xs
+unfolding repeatAfter
+repeat-after-early zero earlier xs l h = absurd (omega arith)
+repeat-after-early (suc n) earlier [] l h = absurd (omega arith)
+repeat-after-early (suc n) earlier (x ∷ xs) l h =
+    by-test (among x earlier) h (λ k. repeat-after-early n (x ∷ earlier) xs (omega arith) k)
+  where
+    by-test : (b : Bool) → pick b 0 (suc (repeatAfter (x ∷ earlier) (take n xs))) < suc n
+        → (repeatAfter (x ∷ earlier) (take n xs) < n → repeatAfter (x ∷ earlier) (take n xs) ≡ repeatAfter (x ∷ earlier) xs)
+        → pick b 0 (suc (repeatAfter (x ∷ earlier) (take n xs))) ≡ pick b 0 (suc (repeatAfter (x ∷ earlier) xs))
+    by-test true k f = refl
+    by-test false k f = ap suc (f (omega arith))
+
+pub repeat-early : (n : ℕ) (xs : List ℕ) → n ≤ length xs → firstRepeat (take n xs) < n → firstRepeat (take n xs) ≡ firstRepeat xs
+unfolding firstRepeat
+repeat-early n xs l h = repeat-after-early n [] xs l h
+
+-- the numbers of a part are a part of the numbers
+pub map-part {ℓ} : {A : Type ℓ} (f : A → ℕ) (xs : List A) (n : ℕ) → map f (take n xs) ≡ take n (map f xs)
+map-part f xs zero = refl
+map-part f [] (suc n) = refl
+map-part f (x ∷ xs) (suc n) = rw (map-part f xs n)

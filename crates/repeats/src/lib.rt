@@ -137,12 +137,17 @@ fn integer_windows(values: &[i32], most: u32) -> usize
     bound
 }
 
-// The index of the first integer that stood earlier.
+// The index of the first integer that stood earlier. A repeat among the first few is found by a call of itself: the compiler then does not take
+// the windows' bits, half a megabyte, into this function's frame, which a short list would pay for.
 pub fn first_integer_repeat(values: &[i32]) -> usize
     ensures { λ r. ⌜ r ≡ firstRepeat (map (ofZ w32) (now (values .entry))) ⌝ }
 {
     if values.len() <= 64 {
         return integer_pairs(values);
+    }
+    let early = first_integer_repeat(&values[..64]);
+    if early < 64 {
+        return early;
     }
     integer_windows(values, most_integer(values))
 }
