@@ -1,10 +1,10 @@
 -- How repeats are found: a window is a stretch of 4,194,304 offsets, kept as bits, 32 in a number. Rests on words' lists.
-use Prim.Native.Nat.{ℕ, zero, suc, _+_, _/_, _%_, _^_, _<_, _≤_}
+use Prim.Native.Nat.{ℕ, zero, suc, _+_, _*_, _/_, _%_, _^_, _<_, _≤_}
 use mathlib.Core.Path.{_≡_}
 use mathlib.Core.Logic.{_⊎_}
 use mathlib.Core.List.{List, [], _∷_}
 use mathlib.Core.Bool.{Bool, true, false}
-use lib.Dec.{eqb}
+use lib.Dec.{eqb, leb}
 use lib.ListN.{length, getD, set}
 use Rattle.words.specs.Lists.{among}
 use Rattle.words.specs.Pick.{pick}
@@ -21,6 +21,10 @@ stood xs i = among (getD xs i 0) (earlier i xs)
 -- no number is above the most
 abbrev pub UpTo : ℕ → List ℕ → Type 0
 UpTo most xs = (i : ℕ) → i < length xs → getD xs i 0 ≤ most
+
+-- few numbers, for the windows up to the most
+unfoldable pub few : ℕ → ℕ → Bool
+few count most = pick (leb 65536 count) false (leb (count * count / 65536) (most / 4194304))
 
 -- whether an offset's bit is set, and the bits with it set
 unfoldable pub held : List ℕ → ℕ → Bool

@@ -9,7 +9,7 @@ ghost use mir.Val.{ofZ};
 ghost use Rattle.types.specs.Rows.{widthOf};
 ghost use Rattle.words.specs.Lists.{among};
 ghost use Rattle.repeats.specs.Repeats.{elementsOf, firstOutside, firstRepeat};
-ghost use Rattle.repeats.specs.Windows.{earlier, UpTo, noted, noting, Bounded};
+ghost use Rattle.repeats.specs.Windows.{earlier, few, UpTo, noted, noting, Bounded};
 
 // Notes an offset in a window's bits, where it is one of the window's; whether it was there already.
 fn note(bits: &mut [u32], window: u32, x: u32) -> bool
@@ -40,6 +40,17 @@ fn larger(a: u32, b: u32) -> u32
         return b;
     }
     a
+}
+
+// Whether so many numbers are sooner held against each other than noted in each window up to the most: to clear a window takes as long as
+// some tens of thousands of comparisons.
+fn is_few(count: usize, most: u32) -> bool
+    ensures { λ r. ⌜ r ≡ few count most ⌝ }
+{
+    if 65536 <= count {
+        return false;
+    }
+    count * count / 65536 <= (most / 4194304) as usize
 }
 
 // The 32 bits of an integer.
@@ -137,8 +148,8 @@ fn integer_windows(values: &[i32], most: u32) -> usize
     bound
 }
 
-// The index of the first integer that stood earlier. A repeat among the first few is found by a call of itself: the compiler then does not take
-// the windows' bits, half a megabyte, into this function's frame, which a short list would pay for.
+// The index of the first integer that stood earlier. The first 64 are looked at by a call of itself: so the compiler does not take the windows'
+// bits, half a megabyte, into this function's frame, which every short list would pay for.
 pub fn first_integer_repeat(values: &[i32]) -> usize
     ensures { λ r. ⌜ r ≡ firstRepeat (map (ofZ w32) (now (values .entry))) ⌝ }
 {
@@ -149,5 +160,9 @@ pub fn first_integer_repeat(values: &[i32]) -> usize
     if early < 64 {
         return early;
     }
-    integer_windows(values, most_integer(values))
+    let most = most_integer(values);
+    if is_few(values.len(), most) {
+        return integer_pairs(values);
+    }
+    integer_windows(values, most)
 }
