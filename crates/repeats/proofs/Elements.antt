@@ -67,3 +67,8 @@ elements-front t k l h =
     let w = widthOf t in
     let e : length (take (k * w) l) ≡ k * w = length-take-le (k * w) l (front-room k w (length l) h) in
     rw (e, whole k w (length l) h) (shown-front t w k (length l / w) l h)
+
+-- and is shorter than a part of more
+pub front-less : (k w m : ℕ) → k < m / w → k * w < m
+front-less k zero m h = absurd (omega (arith, h, div-zero m))
+front-less k (suc w) m h = omega (arith, element-room k (suc w) m h)

@@ -166,3 +166,129 @@ pub fn first_integer_repeat(values: &[i32]) -> usize
     }
     integer_windows(values, most)
 }
+
+// The 32 bits that an element of a part is shown by.
+fn element_at(part: &[u8], code: u8, w: u8, i: usize) -> u32
+    requires { ⌜ (w ≡ widthOf code) × (w ≤ 4) × (i < length (now part) / w) ⌝ }
+    ensures { λ r. ⌜ r ≡ getD (elementsOf code (now (part .entry))) i 0 ⌝ }
+{
+    let at = i * w as usize;
+    let stop = at + w as usize;
+    types::shown_bits(code, words::word(&part[at..stop]))
+}
+
+// The index of a part's first element that is no offset below a size.
+pub fn first_outside(part: &[u8], code: u8, size: u32) -> usize
+    ensures { λ r. ⌜ r ≡ firstOutside size (elementsOf code (now (part .entry))) ⌝ }
+    ensures { λ r. ⌜ r ≤ length (now (part .entry)) / widthOf code ⌝ }
+{
+    let row = types::row_of(code);
+    let w = row.width;
+    let count = words::over(part.len(), w as usize);
+    let mut i = 0;
+    while i < count {
+        if words::is_outside(size, element_at(part, code, w, i)) {
+            return i;
+        }
+        i += 1;
+    }
+    i
+}
+
+// Whether a number is among the first elements, looked at from the last of them backwards.
+fn element_stood(part: &[u8], code: u8, w: u8, count: usize, x: u32) -> bool
+    requires { ⌜ (w ≡ widthOf code) × (w ≤ 4) × (count ≤ length (now part) / w) ⌝ }
+    ensures { λ r. ⌜ r ≡ among x (earlier count (elementsOf code (now (part .entry)))) ⌝ }
+{
+    let mut left = count;
+    while 0 < left {
+        left -= 1;
+        if element_at(part, code, w, left) == x {
+            return true;
+        }
+    }
+    false
+}
+
+// The first repeat among few elements: each is held against all before it.
+fn element_pairs(part: &[u8], code: u8, w: u8, count: usize) -> usize
+    requires { ⌜ (w ≡ widthOf code) × (w ≤ 4) × (count ≡ length (now part) / w) ⌝ }
+    ensures { λ r. ⌜ r ≡ firstRepeat (elementsOf code (now (part .entry))) ⌝ }
+{
+    let mut i = 0;
+    while i < count {
+        let x = element_at(part, code, w, i);
+        if element_stood(part, code, w, i, x) {
+            return i;
+        }
+        i += 1;
+    }
+    i
+}
+
+// The largest element.
+fn most_element(part: &[u8], code: u8, w: u8, count: usize) -> u32
+    requires { ⌜ (w ≡ widthOf code) × (w ≤ 4) × (count ≡ length (now part) / w) ⌝ }
+    ensures { λ r. ⌜ UpTo r (elementsOf code (now (part .entry))) ⌝ }
+{
+    let mut most = 0;
+    let mut i = 0;
+    while i < count {
+        most = larger(most, element_at(part, code, w, i));
+        i += 1;
+    }
+    most
+}
+
+// A window's sweep over the elements before a bound: the first that the window has noted already, or the bound.
+fn element_window(part: &[u8], code: u8, w: u8, bound: usize, window: u32) -> usize
+    requires { ⌜ (w ≡ widthOf code) × (w ≤ 4) × (bound ≤ length (now part) / w) ⌝ }
+    ensures { λ r. ⌜ Bounded window bound (elementsOf code (now (part .entry))) r ⌝ }
+{
+    let mut bits = [0u32; 131072];
+    let mut i = 0;
+    while i < bound {
+        if note(&mut bits[..], window, element_at(part, code, w, i)) {
+            return i;
+        }
+        i += 1;
+    }
+    i
+}
+
+// The first repeat among many elements: the bound that is left after the last window.
+fn element_windows(part: &[u8], code: u8, w: u8, count: usize, most: u32) -> usize
+    requires { ⌜ (w ≡ widthOf code) × (w ≤ 4) × (count ≡ length (now part) / w) ⌝ }
+    requires { ⌜ UpTo most (elementsOf code (now part)) ⌝ }
+    ensures { λ r. ⌜ r ≡ firstRepeat (elementsOf code (now (part .entry))) ⌝ }
+{
+    let mut bound = count;
+    let mut window = 0;
+    while window <= most / 4194304 {
+        bound = element_window(part, code, w, bound, window);
+        window += 1;
+    }
+    bound
+}
+
+// The index of a part's first element that stood earlier. As with integers, the first 64 are looked at by a call of itself.
+pub fn first_repeat(part: &[u8], code: u8) -> usize
+    ensures { λ r. ⌜ r ≡ firstRepeat (elementsOf code (now (part .entry))) ⌝ }
+{
+    let row = types::row_of(code);
+    let w = row.width;
+    let count = words::over(part.len(), w as usize);
+    if count <= 64 {
+        return element_pairs(part, code, w, count);
+    }
+    let front = 64 * w as usize;
+    let early = first_repeat(&part[..front], code);
+    if early < 64 {
+        return early;
+    }
+    let most = most_element(part, code, w, count);
+    if is_few(count, most) {
+        return element_pairs(part, code, w, count);
+    }
+    element_windows(part, code, w, count, most)
+}
