@@ -256,6 +256,33 @@ fn element_window(part: &[u8], code: u8, w: u8, bound: usize, window: u32) -> us
     i
 }
 
+// The same sweep over elements of type 3, the only ones of which many can differ: with the type known, the compiler reads each at once.
+fn long_window(part: &[u8], bound: usize, window: u32) -> usize
+    requires { ⌜ bound ≤ length (now part) / 4 ⌝ }
+    ensures { λ r. ⌜ Bounded window bound (elementsOf 3 (now (part .entry))) r ⌝ }
+{
+    let mut bits = [0u32; 131072];
+    let mut i = 0;
+    while i < bound {
+        if note(&mut bits[..], window, element_at(part, 3, 4, i)) {
+            return i;
+        }
+        i += 1;
+    }
+    i
+}
+
+// A window's sweep, by type.
+fn part_window(part: &[u8], code: u8, w: u8, bound: usize, window: u32) -> usize
+    requires { ⌜ (w ≡ widthOf code) × (w ≤ 4) × (bound ≤ length (now part) / w) ⌝ }
+    ensures { λ r. ⌜ Bounded window bound (elementsOf code (now (part .entry))) r ⌝ }
+{
+    if code == 3 {
+        return long_window(part, bound, window);
+    }
+    element_window(part, code, w, bound, window)
+}
+
 // The first repeat among many elements: the bound that is left after the last window.
 fn element_windows(part: &[u8], code: u8, w: u8, count: usize, most: u32) -> usize
     requires { ⌜ (w ≡ widthOf code) × (w ≤ 4) × (count ≡ length (now part) / w) ⌝ }
@@ -265,7 +292,7 @@ fn element_windows(part: &[u8], code: u8, w: u8, count: usize, most: u32) -> usi
     let mut bound = count;
     let mut window = 0;
     while window <= most / 4194304 {
-        bound = element_window(part, code, w, bound, window);
+        bound = part_window(part, code, w, bound, window);
         window += 1;
     }
     bound

@@ -13,7 +13,7 @@ use Rattle.repeats.proofs.element_windows.Statement.{statement}
 use Rattle.repeats.proofs.element_windows.Tie as tie
 use Rattle.repeats.proofs.element_windows.Reads as reads
 use Rattle.repeats.proofs.element_windows.Lts as lts
-use Rattle.repeats.proofs.element_window.Reads as element-window-reads
+use Rattle.repeats.proofs.part_window.Reads as part-window-reads
 
 abbrev Inv-loop : tie.InvT-loop
 Inv-loop part code w count most bound₀ window₀ bound window =
@@ -31,8 +31,8 @@ loop-holds c =
     (bound-start (elementsOf (a .code) (a .part .now)) (a .count) (sym n), omega arith)
 
 -- src/lib.rt:268:9
-element-window-requires : tie.Need-element-window-requires Inv-loop μ-loop
-element-window-requires c κs =
+part-window-requires : tie.Need-part-window-requires Inv-loop μ-loop
+part-window-requires c κs =
     let a = c .before .before .before .args in
     let p = c .before .before .before .pre .0 in
     let n : length (elementsOf (a .code) (a .part .now)) ≡ a .count = length-elements (a .code) (a .part .now) ∙ rw (← p .0) (sym (p .2)) in
@@ -51,7 +51,7 @@ loop-again : tie.Need-loop-again Inv-loop μ-loop
 loop-again c =
     let l = c .before .before .loop in
     let a = c .before .before .before .before .args in
-    (bound-turn (elementsOf (a .code) (a .part .now)) (l .window) (l .bound) _ (l .inv .0) (c .element-window .ensures), omega arith)
+    (bound-turn (elementsOf (a .code) (a .part .now)) (l .window) (l .bound) _ (l .inv .0) (c .part-window .ensures), omega arith)
 
 -- src/lib.rt:260:1
 returns : tie.Need-returns Inv-loop μ-loop
@@ -67,7 +67,7 @@ element-windows-spec =
     Inv-loop
     μ-loop
     loop-holds
-    element-window-requires
+    part-window-requires
     add-window
     loop-less
     loop-again
