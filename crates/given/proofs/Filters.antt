@@ -13,9 +13,9 @@ use Rattle.words.specs.Pick.{pick}
 use Rattle.vectors.specs.Vectors.{unsound}
 use Rattle.vectors.specs.declared.Judged.the-variants.{Sound}
 use Rattle.repeats.specs.Repeats.{firstOutside, repeatAfter, firstRepeat}
+use Rattle.repeats.proofs.Lists.{map-part}
 use Rattle.site.proofs.Filters.{verdict, filters-verdict}
 use Rattle.given.specs.Given.{numberOf, filtersNumber}
-use Rattle.given.proofs.Turns.{map-part}
 
 number-verdict : (r k n : ℕ) → numberOf (verdict 0 0 r k n) ≡ pick (ltb r k) 11 (pick (ltb k n) 8 0)
 number-verdict r k n = by-tests (ltb r k) (ltb k n)

@@ -1,10 +1,10 @@
 -- The elements of a part by index: how many there are, where each stands, and those of the part's front. Rests on specs/Repeats.
-use mathlib.Core.Path.{_≡_, refl, sym, _∙_, ap}
+use mathlib.Core.Path.{_≡_, refl, sym, _∙_}
 use mathlib.Core.List.{List, [], _∷_}
 use Prim.Native.Nat.{ℕ, zero, suc, _+_, _*_, _/_, _<_, _≤_}
 use native.Mathlib.Omega.{arith}
-use native.Mathlib.Nat.{suc-mul, zero-mul, mul-zero, div-zero, mul-div-cancel, mul-le-mul-right, div-mul-le-self}
-use lib.ListN.{length, getD, take, drop, length-take}
+use native.Mathlib.Nat.{suc-mul, zero-mul, div-zero, mul-div-cancel, mul-le-mul-right, div-mul-le-self}
+use lib.ListN.{length, getD, take, drop}
 use lib.Seq.{drop-drop, take-nil, take-take, length-take-le}
 use Rattle.words.specs.Words.{number}
 use Rattle.types.specs.Rows.{widthOf}

@@ -1,19 +1,19 @@
 -- A window's bits say which of its offsets are among some numbers. Rests on specs/Windows and proofs/Bits.
-use mathlib.Core.Path.{_≡_, refl, sym, _∙_, ap}
+use mathlib.Core.Path.{_≡_, refl, sym, _∙_}
 use mathlib.Core.Logic.{_≢_}
 use mathlib.Core.List.{List, [], _∷_}
 use mathlib.Core.Bool.{Bool, true, false}
-use Prim.Native.Nat.{ℕ, zero, suc, _+_, _*_, _/_, _%_, _^_, _<_, _≤_}
+use Prim.Native.Nat.{ℕ, _+_, _*_, _/_, _%_, _^_, _<_}
 use native.Mathlib.Omega.{arith}
 use native.Mathlib.Nat.{zero-div}
 use native.Mathlib.Numerals.{add-one}
-use borrow.Author.Tests.{eq-eqb, ne-eqb, eqb-true, eqb-false}
 use lib.Dec.{eqb}
 use lib.ListN.{length, getD, set, replicate, getD-replicate}
 use lib.Seq.{getD-set-same, getD-set-other}
+use borrow.Author.Tests.{eq-eqb, ne-eqb, eqb-true, eqb-false}
 use Rattle.words.specs.Lists.{among}
 use Rattle.words.specs.Pick.{pick}
-use Rattle.repeats.specs.Windows.{earlier, stood, held, marked, noted, noting}
+use Rattle.repeats.specs.Windows.{earlier, stood, Fresh, held, marked, noted, noting}
 use Rattle.repeats.proofs.Bits.{set-same, set-other}
 use Rattle.repeats.proofs.Lists.{onward}
 
@@ -102,11 +102,6 @@ pub sweep-stop : (xs bits : List ℕ) (window i : ℕ) → Notes window bits (ea
 unfolding stood
 sweep-stop xs bits window i n h =
     sym (noted-among window (getD xs i 0) bits (earlier i xs) n (noted-only window (getD xs i 0) bits h)) ∙ h
-
--- no number of a window, before an index, stood earlier
-abbrev pub Fresh : ℕ → List ℕ → ℕ → Type 0
-Fresh window xs i =
-    (j : ℕ) → j < i → getD xs j 0 / 4194304 ≡ window → stood xs j ≡ false
 
 pub sweep-fresh : (xs bits : List ℕ) (window i : ℕ) → Notes window bits (earlier i xs) → Fresh window xs i
     → noted window (getD xs i 0) bits ≡ false → Fresh window xs (i + 1)

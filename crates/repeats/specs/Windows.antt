@@ -40,12 +40,17 @@ noted window x bits = pick (eqb (x / 4194304) window) (held bits (x % 4194304)) 
 unfoldable pub noting : ℕ → ℕ → List ℕ → List ℕ
 noting window x bits = pick (eqb (x / 4194304) window) (pick (held bits (x % 4194304)) bits (marked bits (x % 4194304))) bits
 
--- a bound for the first repeat: a repeat, where it is not the bound that was, and no number of the window that stands before it is one
+-- no number of a window that stands before an index stood earlier
+abbrev pub Fresh : ℕ → List ℕ → ℕ → Type 0
+Fresh window xs i =
+    (j : ℕ) → j < i → getD xs j 0 / 4194304 ≡ window → stood xs j ≡ false
+
+-- a bound for the first repeat, after a window's sweep up to another: that one or a repeat, and before it no repeat of the window
 abbrev pub Bounded : ℕ → ℕ → List ℕ → ℕ → Type 0
 Bounded window bound xs r =
-    (r ≤ bound) × ((r ≡ bound) ⊎ (stood xs r ≡ true)) × ((i : ℕ) → i < r → getD xs i 0 / 4194304 ≡ window → stood xs i ≡ false)
+    (r ≤ bound) × ((r ≡ bound) ⊎ (stood xs r ≡ true)) × Fresh window xs r
 
--- the same for all windows below one
+-- a bound after all windows below one: the count of all numbers or a repeat, and before it no repeat of those windows
 abbrev pub Below : ℕ → ℕ → List ℕ → Type 0
 Below window bound xs =
-    (bound ≤ length xs) × ((bound ≡ length xs) ⊎ (stood xs bound ≡ true)) × ((i : ℕ) → i < bound → getD xs i 0 / 4194304 < window → stood xs i ≡ false)
+    (bound ≤ length xs) × ((bound ≡ length xs) ⊎ (stood xs bound ≡ true)) × ((j : ℕ) → j < bound → getD xs j 0 / 4194304 < window → stood xs j ≡ false)

@@ -3,21 +3,21 @@
 use mathlib.Core.Path.{_≡_, refl, sym, _∙_, ap}
 use mathlib.Core.List.{List, [], _∷_}
 use mathlib.Core.Bool.{Bool, true, false}
-use Prim.Native.Nat.{ℕ, zero, suc, _+_, _*_, _/_, _<_, _≤_}
+use Prim.Native.Nat.{ℕ, suc, _+_, _*_, _/_, _≤_}
 use native.Mathlib.Omega.{arith}
 use native.Mathlib.Nat.{suc-mul, zero-mul, zero-add}
-use borrow.Author.Tests.{lt-ltb}
 use lib.Dec.{ltb, leb·suc-suc}
 use lib.ListN.{length, take}
+use borrow.Author.Tests.{lt-ltb}
 use Rattle.words.specs.Lists.{among}
 use Rattle.words.specs.Pick.{pick}
 use Rattle.words.specs.Words.{outside}
 use Rattle.types.specs.Rows.{widthOf}
-use Rattle.repeats.specs.Repeats.{elementsOf, firstOutside, repeatAfter, firstRepeat}
-use Rattle.repeats.proofs.Elements.{length-elements, elements-front}
 use Rattle.vectors.specs.Vectors.{unsound}
 use Rattle.vectors.specs.declared.Judged.{Judged}
 use Rattle.vectors.specs.declared.Judged.the-variants.{Sound}
+use Rattle.repeats.specs.Repeats.{elementsOf, firstOutside, repeatAfter, firstRepeat}
+use Rattle.repeats.proofs.Elements.{length-elements, elements-front}
 use Rattle.site.specs.Filters.{filters, filtered}
 
 -- n elements of w bytes from a place on, of which the first k are offsets, and the first repeat of those is the one at r

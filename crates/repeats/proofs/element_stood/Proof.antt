@@ -1,14 +1,10 @@
 -- `repeats::element_stood` meets its contract. The loop's invariant: the number is among all as it is among those that are left.
-use mathlib.Core.Path.{_≡_, _∙_, sym, refl}
-use mathlib.Core.Bool.{true, false}
-use Prim.Native.Nat.{ℕ, _+_, _-_, _*_, _/_, _<_, _≤_}
+use mathlib.Core.Path.{_≡_, _∙_, sym}
+use Prim.Native.Nat.{_-_, _/_, _≤_}
 use native.Mathlib.Omega.{arith}
-use lib.ListN.{length, drop, getD}
-use Rattle.types.specs.Rows.{widthOf}
-use Rattle.repeats.specs.Repeats.{elementsOf}
-use Rattle.repeats.proofs.Elements.{length-elements}
 use borrow.Author.Tests.{eq-eqb, ne-eqb}
 use Rattle.words.specs.Lists.{among}
+use Rattle.repeats.specs.Repeats.{elementsOf}
 use Rattle.repeats.specs.Windows.{earlier}
 use Rattle.repeats.proofs.Lists.{among-turn}
 use borrow.Author.Needs.{needs}

@@ -1,17 +1,15 @@
 -- `repeats::element_window` meets its contract. The loop's invariant: the bits say which of the window's offsets stood before, and none of the window's did twice.
-use mathlib.Core.Path.{_≡_, _∙_, sym, refl}
+use mathlib.Core.Path.{_≡_, refl}
 use mathlib.Core.Bool.{true, false}
-use Prim.Native.Nat.{ℕ, _+_, _-_, _*_, _/_, _<_, _≤_}
-use native.Mathlib.Omega.{arith}
-use lib.ListN.{length, drop, getD}
-use Rattle.types.specs.Rows.{widthOf}
-use Rattle.repeats.specs.Repeats.{elementsOf}
-use Rattle.repeats.proofs.Elements.{length-elements}
 use mathlib.Core.Logic.{inl, inr}
-use Rattle.repeats.specs.Windows.{earlier, stood, noted}
+use Prim.Native.Nat.{_-_, _/_, _≤_}
+use native.Mathlib.Omega.{arith}
+use native.Mathlib.Nat.{lt-of-lt-of-le}
+use lib.ListN.{length, getD}
+use Rattle.repeats.specs.Repeats.{elementsOf}
+use Rattle.repeats.specs.Windows.{earlier, Fresh, noted}
 use Rattle.repeats.proofs.Lists.{fewer, one-more}
 use Rattle.repeats.proofs.Notes.{Notes, notes-none, sweep-stop, sweep-notes, sweep-fresh}
-use native.Mathlib.Nat.{lt-of-lt-of-le}
 use borrow.Author.Needs.{needs}
 use Rattle.repeats.proofs.element_window.Statement.{statement}
 use Rattle.repeats.proofs.element_window.Tie as tie
@@ -22,7 +20,7 @@ use Rattle.repeats.proofs.note.Reads as note-reads
 
 abbrev Inv-loop : tie.InvT-loop
 Inv-loop part code w bound window bits₀ i₀ bits i =
-    (length bits ≡ 131072) × Notes window bits (earlier i (elementsOf code part)) × ((j : ℕ) → j < i → getD (elementsOf code part) j 0 / 4194304 ≡ window → stood (elementsOf code part) j ≡ false) × (i ≤ bound)
+    (length bits ≡ 131072) × Notes window bits (earlier i (elementsOf code part)) × Fresh window (elementsOf code part) i × (i ≤ bound)
 
 abbrev μ-loop : tie.MeasureT-loop
 μ-loop part code w bound window bits₀ i₀ bits i =

@@ -1,12 +1,11 @@
 -- `repeats::element_windows` meets its contract. The loop's invariant: the bound is the first repeat among the windows before.
-use mathlib.Core.Path.{_≡_, _∙_, sym, refl}
-use mathlib.Core.Bool.{true, false}
-use Prim.Native.Nat.{ℕ, _+_, _-_, _*_, _/_, _<_, _≤_}
+use mathlib.Core.Path.{_≡_, _∙_, sym}
+use Prim.Native.Nat.{_+_, _-_, _/_, _≤_}
 use native.Mathlib.Omega.{arith}
-use lib.ListN.{length, drop, getD}
+use lib.ListN.{length}
 use Rattle.repeats.specs.Repeats.{elementsOf}
-use Rattle.repeats.proofs.Elements.{length-elements}
 use Rattle.repeats.specs.Windows.{Below}
+use Rattle.repeats.proofs.Elements.{length-elements}
 use Rattle.repeats.proofs.Lists.{bound-start, bound-turn, bound-end}
 use borrow.Author.Needs.{needs}
 use Rattle.repeats.proofs.element_windows.Statement.{statement}

@@ -1,15 +1,12 @@
 -- `repeats::first_outside` meets its contract. The loop's invariant: the first of all is the first of those that are left.
-use mathlib.Core.Path.{_≡_, _∙_, sym, refl}
-use mathlib.Core.Bool.{true, false}
-use Prim.Native.Nat.{ℕ, _+_, _-_, _*_, _/_, _<_, _≤_}
+use mathlib.Core.Path.{_≡_, _∙_, sym}
+use Prim.Native.Nat.{_+_, _-_, _/_, _≤_}
 use native.Mathlib.Omega.{arith}
-use lib.ListN.{length, drop, getD}
-use Rattle.types.specs.Rows.{widthOf}
-use Rattle.repeats.specs.Repeats.{elementsOf}
-use Rattle.repeats.proofs.Elements.{length-elements}
-use Rattle.repeats.specs.Repeats.{firstOutside}
-use Rattle.repeats.proofs.Lists.{outside-turn, outside-end}
 use native.Mathlib.Nat.{zero-add}
+use lib.ListN.{length, drop}
+use Rattle.repeats.specs.Repeats.{elementsOf, firstOutside}
+use Rattle.repeats.proofs.Elements.{length-elements}
+use Rattle.repeats.proofs.Lists.{outside-turn, outside-end}
 use borrow.Author.Needs.{needs}
 use Rattle.repeats.proofs.first_outside.Statement.{statement}
 use Rattle.repeats.proofs.first_outside.Tie as tie

@@ -1,16 +1,15 @@
 -- `repeats::integer_pairs` meets its contract. The loop's invariant: none of those before stood earlier.
-use mathlib.Core.Path.{_≡_, _∙_, sym, refl}
+use mathlib.Core.Path.{_≡_}
 use mathlib.Core.List.{map}
 use mathlib.Core.Bool.{true, false}
-use Prim.Native.Nat.{ℕ, _+_, _-_, _/_, _<_, _≤_}
+use mathlib.Core.Logic.{inl, inr}
+use Prim.Native.Nat.{ℕ, _-_, _/_, _<_, _≤_}
 use native.Mathlib.Omega.{arith}
-use lib.ListN.{length, drop, getD, length-map}
+use lib.ListN.{length, length-map}
 use mir.Syntax.{w32}
 use mir.Val.{ofZ}
-use mathlib.Core.Logic.{inl, inr}
 use Rattle.repeats.specs.Windows.{earlier, stood}
-use Rattle.repeats.proofs.Lists.{found}
-use Rattle.repeats.proofs.Lists.{onward}
+use Rattle.repeats.proofs.Lists.{found, onward}
 use borrow.Author.Needs.{needs}
 use Rattle.repeats.proofs.integer_pairs.Statement.{statement}
 use Rattle.repeats.proofs.integer_pairs.Tie as tie

@@ -1,18 +1,16 @@
 -- `repeats::integer_window` meets its contract. The loop's invariant: the bits say which of the window's offsets stood before, and none of the window's did twice.
-use mathlib.Core.Path.{_≡_, _∙_, sym, refl}
+use mathlib.Core.Path.{_≡_, refl}
 use mathlib.Core.List.{map}
 use mathlib.Core.Bool.{true, false}
-use Prim.Native.Nat.{ℕ, _+_, _-_, _/_, _<_, _≤_}
+use mathlib.Core.Logic.{inl, inr}
+use Prim.Native.Nat.{_-_, _/_, _≤_}
 use native.Mathlib.Omega.{arith}
-use lib.ListN.{length, drop, getD, length-map}
+use lib.ListN.{length, getD}
 use mir.Syntax.{w32}
 use mir.Val.{ofZ}
-use mathlib.Core.Logic.{inl, inr}
-use Rattle.repeats.specs.Windows.{earlier, stood}
-use Rattle.repeats.proofs.Notes.{Notes, notes-none}
-use Rattle.repeats.proofs.Notes.{sweep-stop, sweep-notes, sweep-fresh}
+use Rattle.repeats.specs.Windows.{earlier, Fresh, noted}
+use Rattle.repeats.proofs.Notes.{Notes, notes-none, sweep-stop, sweep-notes, sweep-fresh}
 use Rattle.repeats.proofs.Lists.{fewer, one-more}
-use Rattle.repeats.specs.Windows.{noted}
 use borrow.Author.Needs.{needs}
 use Rattle.repeats.proofs.integer_window.Statement.{statement}
 use Rattle.repeats.proofs.integer_window.Tie as tie
@@ -23,7 +21,7 @@ use Rattle.repeats.proofs.note.Reads as note-reads
 
 abbrev Inv-loop : tie.InvT-loop
 Inv-loop values bound window bits₀ i₀ bits i =
-    (length bits ≡ 131072) × Notes window bits (earlier i (map (ofZ w32) values)) × ((j : ℕ) → j < i → getD (map (ofZ w32) values) j 0 / 4194304 ≡ window → stood (map (ofZ w32) values) j ≡ false) × (i ≤ bound)
+    (length bits ≡ 131072) × Notes window bits (earlier i (map (ofZ w32) values)) × Fresh window (map (ofZ w32) values) i × (i ≤ bound)
 
 abbrev μ-loop : tie.MeasureT-loop
 μ-loop values bound window bits₀ i₀ bits i =

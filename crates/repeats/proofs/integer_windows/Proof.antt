@@ -1,10 +1,9 @@
 -- `repeats::integer_windows` meets its contract. The loop's invariant: the bound is the first repeat among the windows before.
-use mathlib.Core.Path.{_≡_, _∙_, sym, refl}
+use mathlib.Core.Path.{sym}
 use mathlib.Core.List.{map}
-use mathlib.Core.Bool.{true, false}
-use Prim.Native.Nat.{ℕ, _+_, _-_, _/_, _<_, _≤_}
+use Prim.Native.Nat.{_+_, _-_, _/_, _≤_}
 use native.Mathlib.Omega.{arith}
-use lib.ListN.{length, drop, getD, length-map}
+use lib.ListN.{length-map}
 use mir.Syntax.{w32}
 use mir.Val.{ofZ}
 use Rattle.repeats.specs.Windows.{Below}

@@ -1,18 +1,16 @@
 -- `repeats::long_window` meets its contract. The loop's invariant: the bits say which of the window's offsets stood before, and none of the window's did twice.
-use mathlib.Core.Path.{_≡_, _∙_, sym, refl}
+use mathlib.Core.Path.{_≡_, sym, refl}
 use mathlib.Core.Bool.{true, false}
-use Prim.Native.Nat.{ℕ, _+_, _-_, _*_, _/_, _<_, _≤_}
-use native.Mathlib.Omega.{arith}
-use lib.ListN.{length, drop, getD}
-use Rattle.types.specs.Rows.{widthOf}
-use Rattle.repeats.specs.Repeats.{elementsOf}
-use Rattle.repeats.proofs.Elements.{length-elements}
 use mathlib.Core.Logic.{inl, inr}
-use Rattle.repeats.specs.Windows.{earlier, stood, noted}
+use Prim.Native.Nat.{_-_, _/_, _≤_}
+use native.Mathlib.Omega.{arith}
+use native.Mathlib.Nat.{lt-of-lt-of-le}
+use lib.ListN.{length, getD}
+use Rattle.vectors.proofs.Plain.{width-3}
+use Rattle.repeats.specs.Repeats.{elementsOf}
+use Rattle.repeats.specs.Windows.{earlier, Fresh, noted}
 use Rattle.repeats.proofs.Lists.{fewer, one-more}
 use Rattle.repeats.proofs.Notes.{Notes, notes-none, sweep-stop, sweep-notes, sweep-fresh}
-use native.Mathlib.Nat.{lt-of-lt-of-le}
-use Rattle.vectors.proofs.Plain.{width-3}
 use borrow.Author.Needs.{needs}
 use Rattle.repeats.proofs.long_window.Statement.{statement}
 use Rattle.repeats.proofs.long_window.Tie as tie
@@ -23,7 +21,7 @@ use Rattle.repeats.proofs.note.Reads as note-reads
 
 abbrev Inv-loop : tie.InvT-loop
 Inv-loop part bound window bits₀ i₀ bits i =
-    (length bits ≡ 131072) × Notes window bits (earlier i (elementsOf 3 part)) × ((j : ℕ) → j < i → getD (elementsOf 3 part) j 0 / 4194304 ≡ window → stood (elementsOf 3 part) j ≡ false) × (i ≤ bound)
+    (length bits ≡ 131072) × Notes window bits (earlier i (elementsOf 3 part)) × Fresh window (elementsOf 3 part) i × (i ≤ bound)
 
 abbrev μ-loop : tie.MeasureT-loop
 μ-loop part bound window bits₀ i₀ bits i =

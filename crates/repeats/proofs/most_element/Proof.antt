@@ -1,10 +1,8 @@
 -- `repeats::most_element` meets its contract. The loop's invariant: none of those before is larger.
-use mathlib.Core.Path.{_≡_, _∙_, sym, refl}
-use mathlib.Core.Bool.{true, false}
-use Prim.Native.Nat.{ℕ, _+_, _-_, _*_, _/_, _<_, _≤_}
+use mathlib.Core.Path.{_≡_, _∙_}
+use Prim.Native.Nat.{ℕ, _-_, _/_, _<_, _≤_}
 use native.Mathlib.Omega.{arith}
-use lib.ListN.{length, drop, getD}
-use Rattle.types.specs.Rows.{widthOf}
+use lib.ListN.{length, getD}
 use Rattle.repeats.specs.Repeats.{elementsOf}
 use Rattle.repeats.proofs.Elements.{length-elements}
 use Rattle.repeats.proofs.Lists.{onward}

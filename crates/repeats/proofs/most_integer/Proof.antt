@@ -1,9 +1,8 @@
 -- `repeats::most_integer` meets its contract. The loop's invariant: none of those before is larger.
-use mathlib.Core.Path.{_≡_, _∙_, sym, refl}
 use mathlib.Core.List.{map}
-use Prim.Native.Nat.{ℕ, _+_, _-_, _/_, _<_, _≤_}
+use Prim.Native.Nat.{ℕ, _-_, _/_, _<_, _≤_}
 use native.Mathlib.Omega.{arith}
-use lib.ListN.{length, drop, getD, length-map}
+use lib.ListN.{length, getD, length-map}
 use mir.Syntax.{w32}
 use mir.Val.{ofZ}
 use Rattle.repeats.proofs.Lists.{onward}
