@@ -2,7 +2,7 @@
 // Rests on words and types for the elements, and on vectors for their list.
 ghost use mathlib.Core.Path.{_≡_};
 ghost use mathlib.Core.List.{map};
-ghost use Prim.Native.Nat.{_*_, _/_, _<_, _≤_};
+ghost use Prim.Native.Nat.{_/_, _<_, _≤_};
 ghost use lib.ListN.{getD, length};
 ghost use mir.Syntax.{w32};
 ghost use mir.Val.{ofZ};

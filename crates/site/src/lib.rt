@@ -1,7 +1,7 @@
 // The site block after the fixed fields: ID, alleles, FILTER and INFO pairs, to the block's last byte.
 // The block is lent up to its end. Rests on values and vectors, and on repeats for FILTER.
 ghost use mathlib.Core.Path.{_≡_};
-ghost use Prim.Native.Nat.{_*_, _-_, _≤_};
+ghost use Prim.Native.Nat.{_-_, _≤_};
 ghost use lib.ListN.{drop, length};
 ghost use Rattle.vectors.specs.Vectors.{judgedInside};
 ghost use Rattle.site.specs.Steps.{stepInside, times, valueStep, keyStep, judgedStep};

@@ -1,11 +1,12 @@
 -- `repeats::first_integer_outside` meets its contract. The loop's invariant: the first of all is the first of those that are left.
-use mathlib.Core.Path.{_≡_, _∙_, sym}
+use mathlib.Core.Path.{_≡_, _∙_, sym, ap}
 use mathlib.Core.List.{map}
 use Prim.Native.Nat.{_+_, _-_, _/_, _≤_}
 use native.Mathlib.Omega.{arith}
-use lib.ListN.{length, drop, length-map}
+use lib.ListN.{length, drop, length-map, getD}
 use mir.Syntax.{w32}
 use mir.Val.{ofZ}
+use Rattle.words.specs.Words.{outside}
 use Rattle.repeats.specs.Repeats.{firstOutside}
 use Rattle.repeats.proofs.Lists.{outside-turn, outside-end}
 use borrow.Author.Needs.{needs}
@@ -42,7 +43,8 @@ returns c =
     let l = c .before .before .before .before .loop in
     let a = c .before .before .before .before .before .args in
     let t = outside-turn (map (ofZ w32) (a .values .now)) (a .size) (l .i) (rw length-map (c .before .before .before .loop-test .taken)) in
-    (sym (l .inv .0 ∙ rw (t, ← c .before .before .bits-at .ensures, ← c .before .is-outside .ensures, c .if1 .taken)), l .inv .1)
+    let o : c .before .is-outside .result ≡ outside (a .size) (getD (map (ofZ w32) (a .values .now)) (l .i) 0) = c .before .is-outside .ensures ∙ ap (outside (a .size)) (c .before .before .bits-at .ensures) in
+    (sym (l .inv .0 ∙ rw (t, ← o, c .if1 .taken)), l .inv .1)
 
 -- src/lib.rt:63:9
 add-i : tie.Need-add-i Inv-loop μ-loop
@@ -58,7 +60,8 @@ loop-again c =
     let l = c .before .before .before .before .loop in
     let a = c .before .before .before .before .before .args in
     let t = outside-turn (map (ofZ w32) (a .values .now)) (a .size) (l .i) (rw length-map (c .before .before .before .loop-test .taken)) in
-    (l .inv .0 ∙ rw (t, ← c .before .before .bits-at .ensures, ← c .before .is-outside .ensures, c .if1 .left), omega arith)
+    let o : c .before .is-outside .result ≡ outside (a .size) (getD (map (ofZ w32) (a .values .now)) (l .i) 0) = c .before .is-outside .ensures ∙ ap (outside (a .size)) (c .before .before .bits-at .ensures) in
+    (l .inv .0 ∙ rw (t, ← o, c .if1 .left), omega arith)
 
 -- src/lib.rt:54:1
 returns-2 : tie.Need-returns-2 Inv-loop μ-loop

@@ -1,9 +1,10 @@
 -- `repeats::first_outside` meets its contract. The loop's invariant: the first of all is the first of those that are left.
-use mathlib.Core.Path.{_≡_, _∙_, sym}
+use mathlib.Core.Path.{_≡_, _∙_, sym, ap}
 use Prim.Native.Nat.{_+_, _-_, _/_, _≤_}
 use native.Mathlib.Omega.{arith}
 use native.Mathlib.Nat.{zero-add}
-use lib.ListN.{length, drop}
+use lib.ListN.{length, drop, getD}
+use Rattle.words.specs.Words.{outside}
 use Rattle.repeats.specs.Repeats.{elementsOf, firstOutside}
 use Rattle.repeats.proofs.Elements.{length-elements}
 use Rattle.repeats.proofs.Lists.{outside-turn, outside-end}
@@ -59,7 +60,8 @@ returns c =
     let a = c .before .before .before .before .before .before .before .before .args in
     let n : length (elementsOf (a .code) (a .part .now)) ≡ c .before .before .before .before .before .over .result = length-elements (a .code) (a .part .now) ∙ rw (← c .before .before .before .before .before .before .row-of .ensures .1 .0) (sym (c .before .before .before .before .before .over .ensures .0)) in
     let t = outside-turn (elementsOf (a .code) (a .part .now)) (a .size) (l .i) (omega (arith, n)) in
-    (sym (l .inv .0 ∙ rw (t, ← c .before .before .element-at .ensures, ← c .before .is-outside .ensures, c .if1 .taken)), omega (arith, n, length-elements (a .code) (a .part .now)))
+    let o : c .before .is-outside .result ≡ outside (a .size) (getD (elementsOf (a .code) (a .part .now)) (l .i) 0) = c .before .is-outside .ensures ∙ ap (outside (a .size)) (c .before .before .element-at .ensures) in
+    (sym (l .inv .0 ∙ rw (t, ← o, c .if1 .taken)), omega (arith, n, length-elements (a .code) (a .part .now)))
 
 -- src/lib.rt:193:9
 add-i : tie.Need-add-i Inv-loop μ-loop
@@ -76,7 +78,8 @@ loop-again c =
     let a = c .before .before .before .before .before .before .before .before .args in
     let n : length (elementsOf (a .code) (a .part .now)) ≡ c .before .before .before .before .before .over .result = length-elements (a .code) (a .part .now) ∙ rw (← c .before .before .before .before .before .before .row-of .ensures .1 .0) (sym (c .before .before .before .before .before .over .ensures .0)) in
     let t = outside-turn (elementsOf (a .code) (a .part .now)) (a .size) (l .i) (omega (arith, n)) in
-    (l .inv .0 ∙ rw (t, ← c .before .before .element-at .ensures, ← c .before .is-outside .ensures, c .if1 .left), omega arith)
+    let o : c .before .is-outside .result ≡ outside (a .size) (getD (elementsOf (a .code) (a .part .now)) (l .i) 0) = c .before .is-outside .ensures ∙ ap (outside (a .size)) (c .before .before .element-at .ensures) in
+    (l .inv .0 ∙ rw (t, ← o, c .if1 .left), omega arith)
 
 -- src/lib.rt:181:1
 returns-2 : tie.Need-returns-2 Inv-loop μ-loop
