@@ -1,12 +1,13 @@
 -- `repeats::element_pairs` meets its contract. The loop's invariant: none of those before stood earlier.
-use mathlib.Core.Path.{_≡_, _∙_, sym}
-use mathlib.Core.Bool.{true, false}
+use mathlib.Core.Path.{_≡_, _∙_, sym, ap}
+use mathlib.Core.Bool.{false}
 use mathlib.Core.Logic.{inl, inr}
 use Prim.Native.Nat.{ℕ, _-_, _/_, _<_, _≤_}
 use native.Mathlib.Omega.{arith}
 use lib.ListN.{length}
+use Rattle.words.specs.Lists.{among}
 use Rattle.repeats.specs.Repeats.{elementsOf}
-use Rattle.repeats.specs.Windows.{stood}
+use Rattle.repeats.specs.Windows.{earlier, stood}
 use Rattle.repeats.proofs.Elements.{length-elements}
 use Rattle.repeats.proofs.Lists.{found, onward}
 use borrow.Author.Needs.{needs}
@@ -45,8 +46,8 @@ returns c =
     let l = c .before .before .before .before .loop in
     let a = c .before .before .before .before .before .before .args in
     let n : length (elementsOf (a .code) (a .part .now)) ≡ a .count = length-elements (a .code) (a .part .now) ∙ rw (← c .before .before .before .before .before .before .pre .0) (sym (c .before .before .before .before .before .before .pre .2)) in
-    let s : stood (elementsOf (a .code) (a .part .now)) (l .i) ≡ true = rw (← c .before .before .element-at .ensures, ← c .before .element-stood .ensures) (c .if1 .taken) in
-    found (elementsOf (a .code) (a .part .now)) (l .i) (omega (arith, n)) (inr s) (l .inv .0)
+    let m : c .before .element-stood .result ≡ stood (elementsOf (a .code) (a .part .now)) (l .i) = c .before .element-stood .ensures ∙ ap (λ x. among x (earlier (l .i) (elementsOf (a .code) (a .part .now)))) (c .before .before .element-at .ensures) in
+    found (elementsOf (a .code) (a .part .now)) (l .i) (omega (arith, n)) (inr (sym m ∙ c .if1 .taken)) (l .inv .0)
 
 -- src/lib.rt:224:9
 add-i : tie.Need-add-i Inv-loop μ-loop
@@ -62,8 +63,8 @@ unfolding stood
 loop-again c =
     let l = c .before .before .before .before .loop in
     let a = c .before .before .before .before .before .before .args in
-    let s : stood (elementsOf (a .code) (a .part .now)) (l .i) ≡ false = rw (← c .before .before .element-at .ensures, ← c .before .element-stood .ensures) (c .if1 .left) in
-    (onward (λ j. stood (elementsOf (a .code) (a .part .now)) j ≡ false) (l .i) (l .inv .0) s, omega arith)
+    let m : c .before .element-stood .result ≡ stood (elementsOf (a .code) (a .part .now)) (l .i) = c .before .element-stood .ensures ∙ ap (λ x. among x (earlier (l .i) (elementsOf (a .code) (a .part .now)))) (c .before .before .element-at .ensures) in
+    (onward (λ j. stood (elementsOf (a .code) (a .part .now)) j ≡ false) (l .i) (l .inv .0) (sym m ∙ c .if1 .left), omega arith)
 
 -- src/lib.rt:214:1
 returns-2 : tie.Need-returns-2 Inv-loop μ-loop

@@ -1,13 +1,14 @@
 -- `repeats::integer_pairs` meets its contract. The loop's invariant: none of those before stood earlier.
-use mathlib.Core.Path.{_≡_}
+use mathlib.Core.Path.{_≡_, _∙_, sym, ap}
 use mathlib.Core.List.{map}
-use mathlib.Core.Bool.{true, false}
+use mathlib.Core.Bool.{false}
 use mathlib.Core.Logic.{inl, inr}
 use Prim.Native.Nat.{ℕ, _-_, _/_, _<_, _≤_}
 use native.Mathlib.Omega.{arith}
 use lib.ListN.{length, length-map}
 use mir.Syntax.{w32}
 use mir.Val.{ofZ}
+use Rattle.words.specs.Lists.{among}
 use Rattle.repeats.specs.Windows.{earlier, stood}
 use Rattle.repeats.proofs.Lists.{found, onward}
 use borrow.Author.Needs.{needs}
@@ -45,8 +46,8 @@ unfolding stood
 returns c =
     let l = c .before .before .before .before .loop in
     let a = c .before .before .before .before .before .args in
-    let s : stood (map (ofZ w32) (a .values .now)) (l .i) ≡ true = rw (← c .before .before .bits-at .ensures, ← c .before .integer-stood .ensures) (c .if1 .taken) in
-    found (map (ofZ w32) (a .values .now)) (l .i) (rw length-map (l .inv .1)) (inr s) (l .inv .0)
+    let m : c .before .integer-stood .result ≡ stood (map (ofZ w32) (a .values .now)) (l .i) = c .before .integer-stood .ensures ∙ ap (λ x. among x (earlier (l .i) (map (ofZ w32) (a .values .now)))) (c .before .before .bits-at .ensures) in
+    found (map (ofZ w32) (a .values .now)) (l .i) (rw length-map (l .inv .1)) (inr (sym m ∙ c .if1 .taken)) (l .inv .0)
 
 -- src/lib.rt:92:9
 add-i : tie.Need-add-i Inv-loop μ-loop
@@ -62,8 +63,8 @@ unfolding stood
 loop-again c =
     let l = c .before .before .before .before .loop in
     let a = c .before .before .before .before .before .args in
-    let s : stood (map (ofZ w32) (a .values .now)) (l .i) ≡ false = rw (← c .before .before .bits-at .ensures, ← c .before .integer-stood .ensures) (c .if1 .left) in
-    (onward (λ j. stood (map (ofZ w32) (a .values .now)) j ≡ false) (l .i) (l .inv .0) s, omega arith)
+    let m : c .before .integer-stood .result ≡ stood (map (ofZ w32) (a .values .now)) (l .i) = c .before .integer-stood .ensures ∙ ap (λ x. among x (earlier (l .i) (map (ofZ w32) (a .values .now)))) (c .before .before .bits-at .ensures) in
+    (onward (λ j. stood (map (ofZ w32) (a .values .now)) j ≡ false) (l .i) (l .inv .0) (sym m ∙ c .if1 .left), omega arith)
 
 -- src/lib.rt:84:1
 returns-2 : tie.Need-returns-2 Inv-loop μ-loop
