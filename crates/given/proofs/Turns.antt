@@ -42,12 +42,7 @@ unfolding vectorsGiven
 vectors-turn xs most t len zero at h = absurd (omega arith)
 vectors-turn xs most t len (suc n) at h = rw (sub-one, drop-drop len at xs)
 
--- the bits of a part are a part of the bits
-pub map-part {ℓ} : {A : Type ℓ} (f : A → ℕ) (xs : List A) (n : ℕ) → map f (take n xs) ≡ take n (map f xs)
-map-part f xs zero = refl
-map-part f [] (suc n) = refl
-map-part f (x ∷ xs) (suc n) = rw (map-part f xs n)
-
+-- the bits of what is left are what is left of the bits
 pub map-rest {ℓ} : {A : Type ℓ} (f : A → ℕ) (xs : List A) (n : ℕ) → map f (drop n xs) ≡ drop n (map f xs)
 map-rest f xs zero = refl
 map-rest f [] (suc n) = refl

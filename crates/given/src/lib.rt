@@ -1,11 +1,10 @@
 // The rules of a value on elements that a builder is given, as integers, float bits or text: the number of what is wrong, or 0.
-// Rests on vectors and site for the rules.
+// Rests on vectors and site for the rules, and on repeats for FILTER's.
 ghost use mathlib.Core.Path.{_≡_};
 ghost use mathlib.Core.Bool.{false};
 ghost use mathlib.Core.List.{map};
 ghost use mir.Syntax.{w32};
 ghost use mir.Val.{ofZ};
-ghost use Rattle.words.specs.Lists.{among};
 ghost use Rattle.vectors.specs.Vectors.{vector};
 ghost use Rattle.given.specs.Given.{numberOf, elementsNumber, filtersNumber, alleleNumber};
 use vectors::Judged;
@@ -98,34 +97,17 @@ pub fn judge_text(text: &[u8], len: usize) -> u32
     number_of(vectors::judge(text, 7, len, 0xFFFFFFFF))
 }
 
-// Whether a number, given by its bits, is among integers.
-fn is_among(part: &[i32], x: u32) -> bool
-    ensures { λ r. ⌜ r ≡ among x (map (ofZ w32) (now (part .entry))) ⌝ }
-{
-    let mut i = 0;
-    while i < part.len() {
-        if words::bits(part[i]) == x {
-            return true;
-        }
-        i += 1;
-    }
-    false
-}
-
-// The number for the elements of FILTER, under the dictionary's size.
+// The number for the elements of FILTER, under the dictionary's size: of those before the first that is no offset, none stands twice.
 pub fn judge_filters(values: &[i32], strings: u32) -> u32
     ensures { λ r. ⌜ r ≡ filtersNumber strings (map (ofZ w32) (now (values .entry))) ⌝ }
 {
-    let mut i = 0;
-    while i < values.len() {
-        let x = words::bits(values[i]);
-        if words::is_outside(strings, x) {
-            return 8;
-        }
-        if is_among(&values[..i], x) {
-            return 11;
-        }
-        i += 1;
+    let sound = repeats::first_integer_outside(values, strings);
+    let first = repeats::first_integer_repeat(&values[..sound]);
+    if first < sound {
+        return 11;
+    }
+    if sound < values.len() {
+        return 8;
     }
     0
 }

@@ -1,3 +1,3 @@
-pub mod FilterTurns
+pub mod Filters
 pub mod Inside
 pub mod Turns

@@ -1,12 +1,11 @@
 -- FILTER: integers, each an offset below the dictionary's size, none twice; marks are no shownNumbers. Rests on values.
-use Prim.Native.Nat.{ℕ, zero, suc, _+_, _-_, _*_, _/_}
+use Prim.Native.Nat.{ℕ, _+_, _-_, _/_}
 use mathlib.Core.List.{List, [], _∷_}
 use lib.ListN.{length, take, drop}
 use Rattle.words.specs.Lists.{among}
 use Rattle.words.specs.Pick.{pick}
-use Rattle.words.specs.Words.{number, outside}
+use Rattle.words.specs.Words.{outside}
 use Rattle.types.specs.Rows.{widthOf}
-use Rattle.types.specs.Elements.{shown}
 use Rattle.types.specs.declared.Use.the-variants.{Filter}
 use Rattle.values.specs.Values.{present}
 use Rattle.values.specs.declared.Value.{Value}
@@ -17,11 +16,6 @@ use Rattle.vectors.specs.declared.Judged.the-variants.{Sound}
 use Rattle.site.specs.Steps.{judgedStep}
 use Rattle.site.specs.declared.Step.{Step}
 use Rattle.site.specs.declared.Step.the-variants.{Refused}
-
--- the first n elements, the last of them first
-unfoldable pub before : ℕ → ℕ → ℕ → List ℕ → List ℕ
-before t w zero l = []
-before t w (suc n) l = shown t (number w (drop (n * w) l)) ∷ before t w n l
 
 -- by element: 8 where it is no offset below the dictionary's size, then 11 where it stood earlier
 unfoldable pub filters : ℕ → ℕ → ℕ → List ℕ → List ℕ → Judged

@@ -1,13 +1,12 @@
 // The site block after the fixed fields: ID, alleles, FILTER and INFO pairs, to the block's last byte.
-// The block is lent up to its end. Rests on values and vectors.
+// The block is lent up to its end. Rests on values and vectors, and on repeats for FILTER.
 ghost use mathlib.Core.Path.{_≡_};
-ghost use Prim.Native.Nat.{_*_, _-_, _≤_};
+ghost use Prim.Native.Nat.{_-_, _≤_};
 ghost use lib.ListN.{drop, length};
-ghost use Rattle.words.specs.Lists.{among};
 ghost use Rattle.vectors.specs.Vectors.{judgedInside};
 ghost use Rattle.site.specs.Steps.{stepInside, times, valueStep, keyStep, judgedStep};
 ghost use Rattle.site.specs.Alleles.{alleleBytes, allele};
-ghost use Rattle.site.specs.Filters.{before, filtered, filter};
+ghost use Rattle.site.specs.Filters.{filtered, filter};
 ghost use Rattle.site.specs.Site.{info, site};
 use types::Use;
 use values::Integer;
@@ -118,53 +117,29 @@ pub fn alleles_at(block: &[u8], from: usize, count: u32) -> Step
     Step::At(at)
 }
 
-// Whether a number is among the first `count` elements of a part, looked at from the last of them backwards.
-fn stood_before(part: &[u8], code: u8, w: u8, count: usize, at: usize, x: u32) -> bool
-    requires { ⌜ (at ≡ count * w) × (at ≤ length (now part)) × (w ≤ 4) ⌝ }
-    ensures { λ r. ⌜ r ≡ among x (before code w count (now (part .entry))) ⌝ }
-{
-    let mut left = count;
-    let mut stop = at;
-    while 0 < left {
-        let first = stop - w as usize;
-        let y = types::shown_bits(code, words::word(&part[first..stop]));
-        if y == x {
-            return true;
-        }
-        stop = first;
-        left -= 1;
-    }
-    false
-}
-
-// The elements of FILTER; places count from the part's start.
+// The elements of FILTER; places count from the part's start. What is refused is decided by the first repeat among those before the first
+// that is no offset.
 fn judge_filters(part: &[u8], code: u8, strings: u32) -> Judged
     ensures { λ r. ⌜ r ≡ filtered strings code (now (part .entry)) ⌝ }
     ensures { λ r. ⌜ judgedInside (length (now (part .entry))) r ⌝ }
 {
     let row = types::row_of(code);
     let w = row.width;
-    let mut left = words::over(part.len(), w as usize);
-    let mut count = 0;
-    let mut at = 0;
-    while 0 < left {
-        let stop = at + w as usize;
-        let x = types::shown_bits(code, words::word(&part[at..stop]));
-        if words::is_outside(strings, x) {
-            return Judged::Refused(Refusal {
-                number: 8,
-                place: at,
-            });
-        }
-        if stood_before(part, code, w, count, at, x) {
-            return Judged::Refused(Refusal {
-                number: 11,
-                place: at,
-            });
-        }
-        at = stop;
-        count += 1;
-        left -= 1;
+    let count = words::over(part.len(), w as usize);
+    let sound = repeats::first_outside(part, code, strings);
+    let stop = sound * w as usize;
+    let first = repeats::first_repeat(&part[..stop], code);
+    if first < sound {
+        return Judged::Refused(Refusal {
+            number: 11,
+            place: first * w as usize,
+        });
+    }
+    if sound < count {
+        return Judged::Refused(Refusal {
+            number: 8,
+            place: stop,
+        });
     }
     Judged::Sound
 }

@@ -11,7 +11,8 @@ use mir.Val.{ofZ}
 use Rattle.values.proofs.Room.{room}
 use Rattle.vectors.specs.Vectors.{vector}
 use Rattle.given.specs.Given.{numberOf, vectorsGiven, elementsNumber}
-use Rattle.given.proofs.Turns.{vectors-turn, map-part, map-rest}
+use Rattle.repeats.proofs.Lists.{map-part}
+use Rattle.given.proofs.Turns.{vectors-turn, map-rest}
 use borrow.Author.Needs.{needs}
 use Rattle.given.proofs.judge_integers.Statement.{statement}
 use Rattle.given.proofs.judge_integers.Tie as tie

@@ -1,0 +1,4 @@
+pub mod Bits
+pub mod Elements
+pub mod Lists
+pub mod Notes
