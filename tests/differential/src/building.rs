@@ -68,8 +68,12 @@ fn sound_turns(random: &mut Random, plan: &Plan) -> Vec<Turn> {
     turns.push(filter(random, &plan.facts));
     turns.extend((0..random.below(6)).map(|_| info(random, &plan.facts)));
     if plan.facts.people > 0 {
-        let formats = if plan.facts.people < 10 && random.one_in(60) { 270 } else { random.below(5) };
-        turns.extend((0..formats).map(|_| format(random, plan)));
+        let many = plan.facts.people < 10 && plan.facts.strings > 300 && random.one_in(20);
+        if many {
+            turns.extend((0..258).map(|key| format_of(random, plan, key)));
+        } else {
+            turns.extend((0..random.below(5)).map(|_| format(random, plan)));
+        }
     }
     turns.push(Turn::End);
     turns
@@ -106,8 +110,12 @@ fn info(random: &mut Random, facts: &Facts) -> Turn {
 
 /// A FORMAT field. Keys may come twice, since small ones are picked often, and then the second is refused.
 fn format(random: &mut Random, plan: &Plan) -> Turn {
+    let key = if random.one_in(3) { plan.facts.gt } else { offset(random, plan.facts.strings) };
+    format_of(random, plan, key)
+}
+
+fn format_of(random: &mut Random, plan: &Plan, key: u32) -> Turn {
     let facts = &plan.facts;
-    let key = if random.one_in(3) { facts.gt } else { offset(random, facts.strings) };
     let is_gt = key == facts.gt;
     let code = if is_gt { random.pick(&[1, 2, 3]) } else { random.pick(&CODES) };
     let len = match random.below(12) {

@@ -2,13 +2,29 @@
 //! shows it.
 
 use std::collections::BTreeMap;
-use std::fmt::{self, Arguments, Debug, Display};
+use std::fmt::{self, Arguments, Debug, Display, Write};
 
 /// An answer of either library, its refusal as number and place.
 pub type Answer<T> = Result<T, (u32, u32)>;
 
 /// Differences that are printed in full; the others are only counted.
 const PRINTED: u64 = 20;
+
+/// Characters of one difference that are printed; a record of 30,000 bytes has room.
+const MOST: usize = 70_000;
+
+/// A text that stops growing, so that an input of many megabytes isn't written out.
+struct Short(String);
+
+impl Write for Short {
+    fn write_str(&mut self, text: &str) -> fmt::Result {
+        if self.0.len() + text.len() > MOST {
+            return Err(fmt::Error);
+        }
+        self.0.push_str(text);
+        Ok(())
+    }
+}
 
 /// What one function answered: how often it accepted, and how often it gave each refusal.
 #[derive(Clone, Copy, Default)]
@@ -70,11 +86,12 @@ impl Report {
         }
     }
 
-    /// Compares two lent buffers over all their bytes.
+    /// Compares two lent buffers of one length over all their bytes.
     pub fn compare_bytes(&mut self, input: &dyn Display, asked: Arguments, ours: &[u8], plain: &[u8]) {
-        if ours != plain {
-            let at = ours.iter().zip(plain).position(|(ours, plain)| ours != plain);
-            self.differ(input, format_args!("{asked}: bytes differ from {at:?}: ours {ours:02X?}, plain {plain:02X?}"));
+        if let Some(at) = ours.iter().zip(plain).position(|(ours, plain)| ours != plain) {
+            let near = |bytes: &[u8]| bytes[at..].iter().take(24).copied().collect::<Vec<u8>>();
+            let (ours, plain) = (near(ours), near(plain));
+            self.differ(input, format_args!("{asked}: bytes from {at} on: ours {ours:02X?}, plain {plain:02X?}"));
         }
     }
 
@@ -88,7 +105,10 @@ impl Report {
     pub fn differ(&mut self, input: &dyn Display, what: Arguments) {
         self.differences += 1;
         if self.differences <= PRINTED {
-            println!("difference at seed {}, case {}: {what}\n  {input}", self.seed, self.case);
+            let mut text = Short(String::new());
+            let is_whole = write!(text, "{what}\n  {input}").is_ok();
+            let rest = if is_whole { "" } else { " .. (--case makes the rest again)" };
+            println!("difference at seed {}, case {}: {}{rest}", self.seed, self.case, text.0);
         }
     }
 }
