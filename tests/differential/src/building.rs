@@ -9,7 +9,7 @@ use crate::shape::{facts, fixed_fields, offset, offsets, people_vectors, site_le
 use crate::turns::{List, Sequence, Turn};
 
 /// What a sequence of turns is made for.
-struct Plan {
+struct Basis {
     facts: Facts,
     alleles: usize,
 }
@@ -19,11 +19,11 @@ pub fn sequence(random: &mut Random) -> Sequence {
     if facts.people > 300 && !random.one_in(4) {
         facts.people = 3;
     }
-    let plan = Plan { facts, alleles: random.within(1, 4) as usize };
+    let basis = Basis { facts, alleles: random.within(1, 4) as usize };
     let mut turns = Vec::new();
-    for turn in sound_turns(random, &plan) {
+    for turn in sound_turns(random, &basis) {
         while random.one_in(3) {
-            turns.push(wrong_turn(random, &plan, &turn));
+            turns.push(wrong_turn(random, &basis, &turn));
         }
         turns.push(turn);
         if random.one_in(12) {
@@ -62,17 +62,17 @@ fn most_bytes(turn: &Turn) -> usize {
     }
 }
 
-fn sound_turns(random: &mut Random, plan: &Plan) -> Vec<Turn> {
-    let mut turns = vec![begin(random, &plan.facts), id(random)];
-    turns.extend((0..plan.alleles).map(|_| allele(random)));
-    turns.push(filter(random, &plan.facts));
-    turns.extend((0..random.below(6)).map(|_| info(random, &plan.facts)));
-    if plan.facts.people > 0 {
-        let many = plan.facts.people < 10 && plan.facts.strings > 300 && random.one_in(20);
+fn sound_turns(random: &mut Random, basis: &Basis) -> Vec<Turn> {
+    let mut turns = vec![begin(random, &basis.facts), id(random)];
+    turns.extend((0..basis.alleles).map(|_| allele(random)));
+    turns.push(filter(random, &basis.facts));
+    turns.extend((0..random.below(6)).map(|_| info(random, &basis.facts)));
+    if basis.facts.people > 0 {
+        let many = basis.facts.people < 10 && basis.facts.strings > 300 && random.one_in(20);
         if many {
-            turns.extend((0..258).map(|key| format_of(random, plan, key)));
+            turns.extend((0..258).map(|key| format_of(random, basis, key)));
         } else {
-            turns.extend((0..random.below(5)).map(|_| format(random, plan)));
+            turns.extend((0..random.below(5)).map(|_| format(random, basis)));
         }
     }
     turns.push(Turn::End);
@@ -109,13 +109,13 @@ fn info(random: &mut Random, facts: &Facts) -> Turn {
 }
 
 /// A FORMAT field. Keys may come twice, since small ones are picked often, and then the second is refused.
-fn format(random: &mut Random, plan: &Plan) -> Turn {
-    let key = if random.one_in(3) { plan.facts.gt } else { offset(random, plan.facts.strings) };
-    format_of(random, plan, key)
+fn format(random: &mut Random, basis: &Basis) -> Turn {
+    let key = if random.one_in(3) { basis.facts.gt } else { offset(random, basis.facts.strings) };
+    format_of(random, basis, key)
 }
 
-fn format_of(random: &mut Random, plan: &Plan, key: u32) -> Turn {
-    let facts = &plan.facts;
+fn format_of(random: &mut Random, basis: &Basis, key: u32) -> Turn {
+    let facts = &basis.facts;
     let is_gt = key == facts.gt;
     let code = if is_gt { random.pick(&[1, 2, 3]) } else { random.pick(&CODES) };
     let len = match random.below(12) {
@@ -123,12 +123,12 @@ fn format_of(random: &mut Random, plan: &Plan, key: u32) -> Turn {
         1 => 0,
         _ => random.within(1, 3),
     } as u32;
-    let shown = people_vectors(random, facts.people, code, len, is_gt.then_some(plan.alleles));
+    let shown = people_vectors(random, facts.people, code, len, is_gt.then_some(basis.alleles));
     Turn::Format(key as i32, len, List::of(code, &shown))
 }
 
 /// A turn like another one with something wrong in it, or one of another sort.
-fn wrong_turn(random: &mut Random, plan: &Plan, turn: &Turn) -> Turn {
+fn wrong_turn(random: &mut Random, basis: &Basis, turn: &Turn) -> Turn {
     let mut wrong = turn.clone();
     match &mut wrong {
         Turn::Begin { facts, chrom, pos, rlen, qual } => match random.below(5) {
@@ -143,42 +143,42 @@ fn wrong_turn(random: &mut Random, plan: &Plan, turn: &Turn) -> Turn {
             0 => text.clear(),
             _ => text.push(random.pick(&[0, 0x20, 0x7F, 0x80, 0xFF])),
         },
-        Turn::Filter(offsets) => wrong_filter(random, plan, offsets),
+        Turn::Filter(offsets) => wrong_filter(random, basis, offsets),
         Turn::Info(key, list) => match random.below(3) {
-            0 => *key = wrong_key(random, plan),
+            0 => *key = wrong_key(random, basis),
             _ => wrong_list(random, list),
         },
-        Turn::Format(..) => wrong_format(random, plan, &mut wrong),
-        Turn::End => wrong = any_turn(random, plan),
+        Turn::Format(..) => wrong_format(random, basis, &mut wrong),
+        Turn::End => wrong = any_turn(random, basis),
     }
     if random.one_in(5) {
-        any_turn(random, plan)
+        any_turn(random, basis)
     } else {
         wrong
     }
 }
 
-fn any_turn(random: &mut Random, plan: &Plan) -> Turn {
+fn any_turn(random: &mut Random, basis: &Basis) -> Turn {
     match random.below(7) {
-        0 => begin(random, &plan.facts),
+        0 => begin(random, &basis.facts),
         1 => id(random),
         2 => allele(random),
-        3 => filter(random, &plan.facts),
-        4 => info(random, &plan.facts),
-        5 => format(random, plan),
+        3 => filter(random, &basis.facts),
+        4 => info(random, &basis.facts),
+        5 => format(random, basis),
         _ => Turn::End,
     }
 }
 
-fn wrong_key(random: &mut Random, plan: &Plan) -> i32 {
-    random.pick(&[plan.facts.strings as i32, -1, i32::MIN, i32::MIN + 1, i32::MIN + 2, i32::MAX])
+fn wrong_key(random: &mut Random, basis: &Basis) -> i32 {
+    random.pick(&[basis.facts.strings as i32, -1, i32::MIN, i32::MIN + 1, i32::MIN + 2, i32::MAX])
 }
 
-fn wrong_filter(random: &mut Random, plan: &Plan, offsets: &mut Vec<i32>) {
+fn wrong_filter(random: &mut Random, basis: &Basis, offsets: &mut Vec<i32>) {
     let at = random.below(offsets.len() + 1);
     match offsets.get(at).copied() {
         Some(offset) if random.one_in(2) => offsets.push(offset),
-        _ => offsets.insert(at, wrong_key(random, plan)),
+        _ => offsets.insert(at, wrong_key(random, basis)),
     }
 }
 
@@ -192,25 +192,25 @@ fn wrong_list(random: &mut Random, list: &mut List) {
     }
 }
 
-fn wrong_format(random: &mut Random, plan: &Plan, turn: &mut Turn) {
+fn wrong_format(random: &mut Random, basis: &Basis, turn: &mut Turn) {
     let Turn::Format(key, len, list) = turn else { return };
     match random.below(7) {
-        0 => *key = wrong_key(random, plan),
+        0 => *key = wrong_key(random, basis),
         1 => *len = len.wrapping_add(random.pick(&[1, u32::MAX, 1 << 31, 1 << 30])),
         2 => *list = List::of(random.pick(&[5, 7]), &[0].repeat(list.len())),
         3 => wrong_list(random, list),
-        4 => *key = plan.facts.gt as i32,
-        _ => wrong_element(random, plan, list),
+        4 => *key = basis.facts.gt as i32,
+        _ => wrong_element(random, basis, list),
     }
 }
 
 /// Writes over an element, so that the list keeps its length: a pattern as above, or a code that no GT has.
-fn wrong_element(random: &mut Random, plan: &Plan, list: &mut List) {
+fn wrong_element(random: &mut Random, basis: &Basis, list: &mut List) {
     if list.len() == 0 {
         return;
     }
     let at = random.below(list.len());
-    let code = 2 * plan.alleles as i32 + random.below(3) as i32;
+    let code = 2 * basis.alleles as i32 + random.below(3) as i32;
     let near = random.below(9) as u32;
     match list {
         List::Integers(list) => list[at] = random.pick(&[(MISSING + near) as i32, code, -1, i32::MAX]),

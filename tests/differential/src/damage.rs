@@ -52,10 +52,11 @@ fn damage_parts(random: &mut Random, record: &mut Record) {
 
 fn repeat_filter(random: &mut Random, record: &mut Record) {
     let filter = &mut record.filter;
-    if filter.len > 0 && filter.len < 14 {
+    if filter.len > 0 {
         let (from, to) = (random.below(filter.shown.len()), random.below(filter.shown.len() + 1));
         filter.shown.insert(to, filter.shown[from]);
         filter.len += 1;
+        filter.length_code = if filter.len < 15 { 0 } else { 3 };
     }
 }
 

@@ -131,10 +131,11 @@ fn filter(random: &mut Random, strings: u32) -> Value {
 
 /// Different offsets, few or none as a rule.
 pub fn offsets(random: &mut Random, strings: u32) -> Vec<u32> {
-    let wanted = if random.one_in(40) { random.below(150) } else { random.below(4) };
+    let long = random.one_in(20);
+    let wanted = if long { random.below(150) } else { random.below(4) };
     let mut offsets = Vec::new();
     for _ in 0..wanted {
-        let offset = offset(random, strings);
+        let offset = if long { random.below(strings.min(500) as usize) as u32 } else { offset(random, strings) };
         if !offsets.contains(&offset) {
             offsets.push(offset);
         }
