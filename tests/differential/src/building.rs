@@ -224,16 +224,17 @@ pub fn sequence_to_limit(random: &mut Random) -> Sequence {
     let facts = Facts { strings: 300, contigs: 1, people: 7, gt: 1 };
     let mut turns = vec![begin(random, &facts), Turn::Id(Vec::new()), Turn::Allele(b"A".to_vec())];
     match random.below(3) {
-        0 => turns.extend(vec![Turn::Allele(b"T".to_vec()); 65_536]),
+        0 => {
+            turns.extend(vec![Turn::Allele(b"T".to_vec()); 65_536]);
+            turns.push(Turn::Filter(vec![0]));
+            turns.extend([131_072, 131_071].map(|code| Turn::Format(1, 1, List::Integers(vec![code; 7]))));
+        }
         1 => {
             turns.push(Turn::Filter(Vec::new()));
             turns.extend(vec![Turn::Info(200, List::Integers(Vec::new())); 65_537]);
             turns.push(Turn::Format(1, 0, List::Integers(Vec::new())));
         }
         _ => turns.extend(to_most_bytes(random)),
-    }
-    if matches!(turns.last(), Some(Turn::Allele(_))) {
-        turns.push(Turn::Filter(vec![0]));
     }
     turns.push(Turn::End);
     with_rooms_for_most(random, turns)

@@ -6,12 +6,13 @@ use crate::building::{sequence, sequence_to_limit};
 use crate::choosing::compare_choices;
 use crate::damage::{damaged, noise, Input};
 use crate::elements::{width, CODES};
+use crate::filters::compare_filters;
 use crate::random::Random;
 use crate::reading::{compare_fetch, compare_fetches, compare_pairs, compare_read, compare_tally, compare_walk, KINDS};
 use crate::rebuild;
 use crate::record::{set_lengths, Key, Record, Value};
 use crate::report::Report;
-use crate::shape::{facts, record, record_of};
+use crate::shape::{facts, people_vectors, record, record_of};
 use crate::turns::compare_turns;
 
 /// Makes and compares the case of a number.
@@ -22,7 +23,8 @@ pub fn run(report: &mut Report, seed: u64, case: u64) {
         0 => large_record(report, random),
         1 => drop(compare_turns(report, &sequence_to_limit(random))),
         2..=7 => sweep(report, random),
-        8..=299 => sound_record(report, random),
+        8..=17 => compare_filters(report, random),
+        18..=299 => sound_record(report, random),
         300..=649 => damaged_records(report, random),
         650..=699 => {
             let facts = facts(random);
@@ -124,7 +126,10 @@ fn large_record(report: &mut Report, random: &mut Random) {
     let mut record = Record { formats: Vec::new(), ..record_of(random, facts) };
     let one = Value { code: 7, len: 1, length_code: 0, shown: vec![0x41] };
     match random.below(4) {
-        0 => record.alleles = vec![one; 65_535],
+        0 => {
+            record.alleles = vec![one; 65_535];
+            record.formats.extend(wide_genotypes(random, &facts));
+        }
         1 => record.infos = vec![(Key { number: 0, code: 2 }, one); 65_535],
         _ => fill(random, &mut record),
     }
@@ -135,6 +140,15 @@ fn large_record(report: &mut Report, random: &mut Random) {
     compare_walk(report, &input);
     (0..KINDS.len()).for_each(|kind| compare_fetch(report, &input, random, kind, 0));
     compare_choices(report, &input, random, false);
+}
+
+/// GT of codes that only the most alleles have, where the facts have a GT.
+fn wide_genotypes(random: &mut Random, facts: &Facts) -> Option<(Key, Value)> {
+    // One allele more than the record has gives codes that are too high.
+    let alleles = 65_535 + random.below(2);
+    let shown = people_vectors(random, facts.people, 3, 2, Some(alleles));
+    let value = Value { code: 3, len: 2, length_code: 0, shown };
+    (facts.gt < facts.strings.min(1 << 31)).then_some((Key { number: facts.gt, code: 3 }, value))
 }
 
 /// Fills a record with one FORMAT field up to the most bytes, or up to a byte more; what is too little for a person

@@ -6,6 +6,7 @@ mod cases;
 mod choosing;
 mod damage;
 mod elements;
+mod filters;
 mod input;
 mod random;
 mod reading;
