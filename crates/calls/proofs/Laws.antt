@@ -21,7 +21,7 @@ counters-below zero k x xs h = refl
 counters-below (suc n) k x xs h = rw (howMany-miss k x xs (λ e. omega arith), counters-below n (suc k) x xs (omega arith))
 
 -- a number that has a counter is counted once
-counted-once : (n k x : ℕ) (xs : List ℕ) → k ≤ x → x < k + n → total (counters n k (x ∷ xs)) ≡ 1 + total (counters n k xs)
+pub counted-once : (n k x : ℕ) (xs : List ℕ) → k ≤ x → x < k + n → total (counters n k (x ∷ xs)) ≡ 1 + total (counters n k xs)
 unfolding counters total
 counted-once zero k x xs h g = absurd (omega arith)
 counted-once (suc n) k x xs h g = by-first (eqb k x) refl (λ p. counted-once n (suc k) x xs p (omega arith))
@@ -36,7 +36,7 @@ counted-once (suc n) k x xs h g = by-first (eqb k x) refl (λ p. counted-once n 
         let q : k ≡ x → ⊥ = eqb-false k x e in
         rw (howMany-miss k x xs q, on (omega arith)) (omega arith)
 
-none-counted : (n k : ℕ) → total (counters n k []) ≡ 0
+pub none-counted : (n k : ℕ) → total (counters n k []) ≡ 0
 unfolding counters total howMany
 none-counted zero k = refl
 none-counted (suc n) k = rw (none-counted n (suc k))

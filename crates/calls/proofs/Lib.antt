@@ -1,5 +1,6 @@
 pub mod Counters
 pub mod Examples
+pub mod Halves
 pub mod Laws
 pub mod Pairs
 pub mod Sound

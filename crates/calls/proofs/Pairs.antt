@@ -1,10 +1,11 @@
 -- Counters kept as pairs: their sums, after a store and at each place. Rests on specs/Sweep.
-use mathlib.Core.Path.{_≡_, refl}
+use mathlib.Core.Path.{_≡_, refl, sym}
 use mathlib.Core.List.{List, [], _∷_}
 use Prim.Native.Nat.{ℕ, zero, suc, _+_, _*_, _%_, _<_, _≤_}
 use native.Mathlib.Omega.{arith}
 use lib.ListN.{length, getD, set}
 use Rattle.calls.specs.Sweep.{folded}
+use Rattle.calls.specs.Totals.{sums}
 
 -- raising either counter of a pair raises the sum
 pub folded-set : (cs : List ℕ) (a s : ℕ) → length cs % 2 ≡ 0 → s < 2
@@ -48,3 +49,27 @@ folded-above cs a (suc (suc s)) g = absurd (omega arith)
 -- as many sums as pairs
 pub folded-65 : (cs : List ℕ) → length cs ≡ 130 → length (folded cs) ≡ 65
 folded-65 cs h = let p : length cs % 2 ≡ 0 = rw h in omega (arith, length-folded cs p)
+
+sums-none : (cs : List ℕ) → sums cs [] ≡ cs
+unfolding sums
+sums-none [] = refl
+sums-none (c ∷ cs) = refl
+
+-- the first counter of each of four pairs raised raises the first four sums
+pub folded-four : (cs : List ℕ) (a b c d : ℕ) → 8 ≤ length cs
+    → folded (set (set (set (set cs 0 (getD cs 0 0 + a)) 2 (getD cs 2 0 + b)) 4 (getD cs 4 0 + c)) 6 (getD cs 6 0 + d)) ≡ sums (folded cs) (a ∷ b ∷ c ∷ d ∷ [])
+unfolding folded sums
+folded-four [] a b c d h = absurd (omega arith)
+folded-four (p ∷ []) a b c d h = absurd (omega arith)
+folded-four (p ∷ q ∷ []) a b c d h = absurd (omega arith)
+folded-four (p ∷ q ∷ r ∷ []) a b c d h = absurd (omega arith)
+folded-four (p ∷ q ∷ r ∷ s ∷ []) a b c d h = absurd (omega arith)
+folded-four (p ∷ q ∷ r ∷ s ∷ t ∷ []) a b c d h = absurd (omega arith)
+folded-four (p ∷ q ∷ r ∷ s ∷ t ∷ u ∷ []) a b c d h = absurd (omega arith)
+folded-four (p ∷ q ∷ r ∷ s ∷ t ∷ u ∷ v ∷ []) a b c d h = absurd (omega arith)
+folded-four (p ∷ q ∷ r ∷ s ∷ t ∷ u ∷ v ∷ w ∷ cs) a b c d h =
+    let e : p + a + q ≡ p + q + a = omega arith in
+    let f : r + b + s ≡ r + s + b = omega arith in
+    let g : t + c + u ≡ t + u + c = omega arith in
+    let k : v + d + w ≡ v + w + d = omega arith in
+    rw (e, f, g, k) (sym (rw (sums-none (folded cs))))

@@ -1,7 +1,7 @@
--- One turn of each loop: of a person's elements, and of people. Rests on specs/Sweep.
+-- One turn of each loop: of a person's elements, of people, and of blocks of them. Rests on specs/Sweep.
 use mathlib.Core.Path.{_≡_, refl}
-use mathlib.Core.List.{List, [], _∷_, map}
-use Prim.Native.Nat.{ℕ, zero, suc, _+_, _-_, _*_, _/_, _<_}
+use mathlib.Core.List.{List, [], _∷_, _++_, map}
+use Prim.Native.Nat.{ℕ, zero, suc, _+_, _-_, _*_, _/_, _<_, _≤_}
 use native.Mathlib.Omega.{arith}
 use native.Mathlib.Numerals.{sub-one}
 use native.Mathlib.Nat.{add-assoc, div-zero, zero-add, zero-div}
@@ -18,6 +18,7 @@ use Rattle.calls.specs.declared.Calls.{Calls}
 use Rattle.calls.specs.declared.Slot.{Slot}
 use Rattle.calls.specs.declared.Slot.the-variants.{Past, Call}
 use Rattle.calls.proofs.Counters.{raised-append, raised-zeros}
+use Rattle.calls.proofs.Laws.{people-append, called-append, without-append}
 
 -- one where a person's slots end at once
 abbrev pub ends : Slot → ℕ
@@ -66,15 +67,34 @@ pub onward-start : (t : ℕ) (ps : List (List ℕ)) → tally t ps ≡ onward 0 
 unfolding tally
 onward-start t ps = rw (zero-add, raised-zeros 65 0 (called t ps))
 
-pub onward-turn : (s : List ℕ) (so : ℕ) (cs : List ℕ) (t w len n at : ℕ) → 0 < n
+pub onward-block : (s : List ℕ) (so : ℕ) (cs : List ℕ) (t w len n k at : ℕ) → k ≤ n
     → onward so cs t (people w len n (drop at s))
-    ≡ onward (so + noSlot (slots t (numbers w len (drop at s)))) (raised 0 cs (alleles t (numbers w len (drop at s)))) t
-    (people w len (n - 1) (drop (at + len * w) s))
-unfolding people without called
-onward-turn s so cs t w len zero at h = absurd (omega arith)
-onward-turn s so cs t w len (suc n) at h = rw (sub-one, drop-drop (len * w) at s, add-assoc, raised-append)
+    ≡ onward (so + without t (people w len k (drop at s))) (raised 0 cs (called t (people w len k (drop at s)))) t
+    (people w len (n - k) (drop (at + k * (len * w)) s))
+onward-block s so cs t w len n k at h =
+    let e : k + (n - k) ≡ n = omega arith in
+    let p : people w len n (drop at s) ≡ people w len k (drop at s) ++ people w len (n - k) (drop (at + k * (len * w)) s) =
+    rw (e, drop-drop (k * (len * w)) at s) at (people-append w len k (n - k) (drop at s)) in
+    rw (p, without-append, called-append, add-assoc, raised-append)
 
--- where there is anyone, elements have a width
-pub some-width : (m w len : ℕ) → 0 < m / w / len → 0 < w
-some-width m zero len h = let e : m / 0 / len ≡ 0 = rw (div-zero m, zero-div len) in absurd (omega arith)
-some-width m (suc w) len h = omega arith
+-- a person, and those after it
+pub without-turn : (s : List ℕ) (t w len n at c r : ℕ) → 0 < n → r ≡ noSlot (slots t (numbers w len (drop at s)))
+    → c + without t (people w len n (drop at s)) ≡ c + r + without t (people w len (n - 1) (drop (at + len * w) s))
+unfolding people without
+without-turn s t w len zero at c r h e = absurd (omega arith)
+without-turn s t w len (suc n) at c r h e = rw (e, sub-one, drop-drop (len * w) at s, add-assoc)
+
+pub called-turn : (s : List ℕ) (cs ds : List ℕ) (t w len n at : ℕ) → 0 < n → ds ≡ raised 0 cs (alleles t (numbers w len (drop at s)))
+    → raised 0 cs (called t (people w len n (drop at s))) ≡ raised 0 ds (called t (people w len (n - 1) (drop (at + len * w) s)))
+unfolding people called
+called-turn s cs ds t w len zero at h e = absurd (omega arith)
+called-turn s cs ds t w len (suc n) at h e = rw (e, sub-one, drop-drop (len * w) at s, raised-append)
+
+-- where there is anyone, elements have a width and vectors a length
+pub some-width : (m w len n : ℕ) → 0 < n → n ≤ m / w / len → 0 < w
+some-width m zero len n p h = let q = rw (div-zero m, zero-div len) at h in absurd (omega (arith, q))
+some-width m (suc w) len n p h = omega arith
+
+pub some-length : (m w len n : ℕ) → 0 < n → n ≤ m / w / len → 0 < len
+some-length m w zero n p h = let q = rw (div-zero (m / w)) at h in absurd (omega (arith, q))
+some-length m w (suc len) n p h = omega arith

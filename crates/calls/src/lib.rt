@@ -4,10 +4,15 @@ ghost use mathlib.Core.Path.{_≡_};
 ghost use mathlib.Core.Logic.{_≢_};
 ghost use Prim.Native.Nat.{_+_, _-_, _*_, _^_, _<_, _≤_};
 ghost use lib.ListN.{drop, length};
+ghost use lib.Dec.{eqb};
+ghost use Rattle.words.specs.Pick.{pick};
+ghost use Rattle.types.specs.Rows.{widthOf};
 ghost use Rattle.types.specs.Elements.{kind};
 ghost use Rattle.vectors.specs.Vectors.{numbers};
-ghost use Rattle.calls.specs.Calls.{slots, alleles, noSlot, AtMost, counted};
+ghost use Rattle.calls.specs.Calls.{slots, alleles, noSlot, people, called, without, counters, AtMost, counted};
+ghost use Rattle.calls.specs.Halves.{halves, listed};
 ghost use Rattle.calls.specs.Sweep.{slotted, raised, folded};
+ghost use Rattle.calls.specs.Totals.{total, sums};
 use types::Element;
 
 // People without a genotype, and how often each allele is called: of `counts`, the first is the missing alleles,
@@ -21,6 +26,14 @@ pub struct Calls {
 enum Slot {
     Past,
     Call(u32),
+}
+
+// How often a missing allele and each of the first three is called, of elements so few that a byte counts them.
+struct Few {
+    none: u8,
+    first: u8,
+    second: u8,
+    third: u8,
 }
 
 // What an element's number is in the sweep.
@@ -73,6 +86,154 @@ fn count_person(
     none
 }
 
+// Counts the slots of so many people from a place on, one person after the other; how many have none.
+fn count_people(
+    part: &[u8],
+    code: u8,
+    w: u8,
+    len: usize,
+    from: usize,
+    count: usize,
+    pairs: &mut [u64; 130],
+) -> u64
+    requires { ⌜ (from + count * (len * w) ≤ length (now part)) × (0 < w) × (w ≤ 4) × (w ≢ 3) ⌝ }
+    requires { ⌜ (length (now pairs) ≡ 130) × AtMost from (folded (now pairs)) ⌝ }
+    ensures { λ r. ⌜ r ≡ without code (people w len count (drop from (now (part .entry)))) ⌝ }
+    ensures { λ r. ⌜ folded (now (pairs .exit)) ≡ raised 0 (folded (now (pairs .entry))) (called code (people w len count (drop from (now (part .entry))))) ⌝ }
+    ensures { λ r. ⌜ (r ≤ count) × (length (now (pairs .exit)) ≡ 130) × AtMost (from + count * (len * w)) (folded (now (pairs .exit))) ⌝ }
+{
+    let mut left = count;
+    let mut at = from;
+    let mut lacking: u64 = 0;
+    while 0 < left {
+        lacking += count_person(part, code, w, len, at, pairs);
+        at += len * w as usize;
+        left -= 1;
+    }
+    lacking
+}
+
+// One where two numbers are the same, with no branch.
+fn one_where(k: u8, x: u8) -> u8
+    ensures { λ r. ⌜ (r ≡ pick (eqb k x) 1 0) × (r ≤ 1) ⌝ }
+{
+    if k == x {
+        return 1;
+    }
+    0
+}
+
+// Counts elements of one byte by their halves, up to 3. The sweep doesn't leave early, so that it takes many elements at once.
+fn few_of(part: &[u8], from: usize, count: usize) -> Few
+    requires { ⌜ (from + count * 1 ≤ length (now part)) × (count < 256) ⌝ }
+    ensures { λ r. ⌜ listed r ≡ counters 4 0 (halves (numbers 1 count (drop from (now (part .entry))))) ⌝ }
+{
+    let mut left = count;
+    let mut at = from;
+    let mut none: u8 = 0;
+    let mut first: u8 = 0;
+    let mut second: u8 = 0;
+    let mut third: u8 = 0;
+    while 0 < left {
+        let half = part[at] / 2;
+        none += one_where(0, half);
+        first += one_where(1, half);
+        second += one_where(2, half);
+        third += one_where(3, half);
+        at += 1;
+        left -= 1;
+    }
+    Few {
+        none,
+        first,
+        second,
+        third,
+    }
+}
+
+// The same where it can be told: of elements of type 1, fewer than 256.
+fn few_at(part: &[u8], code: u8, from: usize, count: usize) -> Few
+    requires { ⌜ (from + count * widthOf code ≤ length (now part)) × (0 < count) ⌝ }
+    ensures { λ r. ⌜ (total (listed r) ≡ count → (code ≡ 1) × (listed r ≡ counters 4 0 (halves (numbers 1 count (drop from (now (part .entry))))))) ⌝ }
+{
+    let nothing = Few {
+        none: 0,
+        first: 0,
+        second: 0,
+        third: 0,
+    };
+    if code != 1 {
+        return nothing;
+    }
+    if 255 < count {
+        return nothing;
+    }
+    few_of(part, from, count)
+}
+
+// How many elements were counted.
+fn all_of(none: u8, first: u8, second: u8, third: u8) -> usize
+    ensures { λ r. ⌜ r ≡ none + first + second + third ⌝ }
+{
+    none as usize + first as usize + second as usize + third as usize
+}
+
+// Raises the counters of the first alleles.
+fn raise_few(f: Few, pairs: &mut [u64; 130])
+    requires { ⌜ (length (now pairs) ≡ 130) × AtMost (2 ^ 64 - 256) (folded (now pairs)) ⌝ }
+    ensures { λ _. ⌜ (length (now (pairs .exit)) ≡ 130) × (folded (now (pairs .exit)) ≡ sums (folded (now (pairs .entry))) (listed f)) ⌝ }
+{
+    let none = pairs[0] + f.none as u64;
+    let first = pairs[2] + f.first as u64;
+    let second = pairs[4] + f.second as u64;
+    let third = pairs[6] + f.third as u64;
+    pairs[0] = none;
+    pairs[2] = first;
+    pairs[4] = second;
+    pairs[6] = third;
+}
+
+// Counts the slots of so many people from a place on; how many have none.
+// Where every element is a missing allele or one of the first three, they are counted at once: then each is a slot, whoever has it.
+fn count_block(
+    part: &[u8],
+    code: u8,
+    w: u8,
+    len: usize,
+    from: usize,
+    count: usize,
+    pairs: &mut [u64; 130],
+) -> u64
+    requires { ⌜ (from + count * (len * w) ≤ length (now part)) × (0 < w) × (w ≤ 4) × (w ≢ 3) × (w ≡ widthOf code) × (0 < count) × (0 < len) ⌝ }
+    requires { ⌜ (length (now pairs) ≡ 130) × AtMost from (folded (now pairs)) ⌝ }
+    ensures { λ r. ⌜ r ≡ without code (people w len count (drop from (now (part .entry)))) ⌝ }
+    ensures { λ r. ⌜ folded (now (pairs .exit)) ≡ raised 0 (folded (now (pairs .entry))) (called code (people w len count (drop from (now (part .entry))))) ⌝ }
+    ensures { λ r. ⌜ (r ≤ count) × (length (now (pairs .exit)) ≡ 130) × AtMost (from + count * (len * w)) (folded (now (pairs .exit))) ⌝ }
+{
+    let n = count * len;
+    let f = few_at(part, code, from, n);
+    if all_of(f.none, f.first, f.second, f.third) != n {
+        return count_people(part, code, w, len, from, count, pairs);
+    }
+    raise_few(f, pairs);
+    0
+}
+
+// How many people are counted together, of those that are left: so many that a byte counts their elements.
+fn together(left: usize, len: usize) -> usize
+    requires { ⌜ 0 < left ⌝ }
+    ensures { λ r. ⌜ (0 < r) × (r ≤ left) ⌝ }
+{
+    let k = words::over(240, len);
+    if k == 0 {
+        return 1;
+    }
+    if left < k {
+        return left;
+    }
+    k
+}
+
 // The sum of each pair of counters.
 fn sum_pairs(pairs: &[u64; 130]) -> [u64; 65]
     requires { ⌜ (length (now pairs) ≡ 130) × AtMost (2 ^ 64 - 1) (folded (now pairs)) ⌝ }
@@ -98,9 +259,10 @@ pub fn count_calls(part: &[u8], code: u8, len: usize) -> Calls
     let mut without: u64 = 0;
     let mut pairs = [0u64; 130];
     while 0 < left {
-        without += count_person(part, code, w, len, at, &mut pairs);
-        at += len * w as usize;
-        left -= 1;
+        let k = together(left, len);
+        without += count_block(part, code, w, len, at, k, &mut pairs);
+        at += k * (len * w as usize);
+        left -= k;
     }
     Calls {
         without,

@@ -1,23 +1,24 @@
 -- `calls::count_calls` meets its contract. The loop's invariant: the part's tally is the one under way and the people that are left, who have room;
--- no pair of counters is above the place; and where anyone is left, elements have a width.
+-- no pair of counters is above the place; and no more are left than the part has.
 use mathlib.Core.Path.{_≡_, refl, _∙_}
-use Prim.Native.Nat.{_+_, _*_, _<_, _≤_, _^_}
+use Prim.Native.Nat.{_+_, _*_, _/_, _<_, _≤_, _^_}
 use native.Mathlib.Nat.{add-zero}
 use native.Mathlib.Omega.{arith}
 use lib.ListN.{drop, length}
-use Rattle.values.proofs.Room.{room}
+use Rattle.vectors.proofs.Plain.{block-room, block-one}
 use Rattle.vectors.proofs.Turns.{vectors-fit}
 use Rattle.calls.specs.Calls as spec
 use Rattle.calls.specs.Sweep.{folded}
 use Rattle.calls.proofs.Counters.{raised-none, wider, zeros}
-use Rattle.calls.proofs.Turns.{onward, onward-start, onward-turn, some-width}
+use Rattle.calls.proofs.Turns.{onward, onward-start, onward-block, some-width, some-length}
 use borrow.Author.Needs.{needs}
 use Rattle.calls.proofs.count_calls.Statement.{statement}
 use Rattle.calls.proofs.count_calls.Tie as tie
 use Rattle.calls.proofs.count_calls.Reads as reads
 use Rattle.calls.proofs.count_calls.Lts as lts
-use Rattle.calls.proofs.count_person.Reads as count-person-reads
+use Rattle.calls.proofs.count_block.Reads as count-block-reads
 use Rattle.calls.proofs.sum_pairs.Reads as sum-pairs-reads
+use Rattle.calls.proofs.together.Reads as together-reads
 use Rattle.types.proofs.row_of.Reads as row-of-reads
 use Rattle.words.proofs.over.Reads as over-reads
 
@@ -28,7 +29,7 @@ Inv-loop part code len w left₀ at₀ without₀ pairs₀ left at without pairs
     × spec.AtMost at (folded pairs)
     × (length pairs ≡ 130)
     × (without + left < 2 ^ 64)
-    × (0 < left → 0 < w)
+    × (left ≤ length part / w / len)
 
 abbrev μ-loop : tie.MeasureT-loop
 μ-loop part code len w left₀ at₀ without₀ pairs₀ left at without pairs = left
@@ -61,20 +62,27 @@ loop-holds c =
       zeros 65 _,
       refl,
       search needs,
-      λ h. some-width _ _ _ (rw (p, n) at h),
+      simp (← n, ← p) (omega arith),
     )
 
 -- src/lib.rt:101:20
-count-person-requires : tie.Need-count-person-requires Inv-loop μ-loop
-count-person-requires c κs =
-    let l = c .before .before .loop in
-    let h = c .before .loop-test .taken in
-    let w = c .before .before .before .before .before .row-of .ensures .1 in
-    ((omega (arith, room _ _ _ _ h (l .inv .1)), l .inv .5 h, w .1, w .2), (l .inv .3, l .inv .2))
+together-requires : tie.Need-together-requires Inv-loop μ-loop
+together-requires c κs = search needs
+
+-- src/lib.rt:101:20
+count-block-requires : tie.Need-count-block-requires Inv-loop μ-loop
+count-block-requires c κs =
+    let l = c .before .before .before .loop in
+    let h = c .before .before .loop-test .taken in
+    let k = c .before .together .ensures in
+    let w = c .before .before .before .before .before .before .row-of .ensures .1 in (
+      (omega (arith, block-room _ _ _ _ _ (k .1) (l .inv .1)), some-width _ _ _ _ h (l .inv .5), w .1, w .2, w .0, k .0, some-length _ _ _ _ h (l .inv .5)),
+      (l .inv .3, l .inv .2),
+    )
 
 -- src/lib.rt:101:9
 add-without : tie.Need-add-without Inv-loop μ-loop
-add-without c = let b = c .count-person .ensures .1 .1 .0 in omega arith
+add-without c = let b = c .count-block .ensures .1 .1 .0 in omega arith
 
 -- src/lib.rt:102:21
 cast-at : tie.Need-cast-at Inv-loop μ-loop
@@ -82,11 +90,17 @@ cast-at c = search needs
 
 -- src/lib.rt:102:15
 mul-at : tie.Need-mul-at Inv-loop μ-loop
-mul-at c = omega (arith, room _ _ _ _ (c .before .before .loop-test .taken) (c .before .before .before .loop .inv .1))
+mul-at c =
+    let k = c .before .before .together .ensures in
+    omega (arith, block-one _ _ _ _ _ (k .0) (k .1) (c .before .before .before .before .loop .inv .1))
+
+-- src/lib.rt:102:15
+mul-at-2 : tie.Need-mul-at-2 Inv-loop μ-loop
+mul-at-2 c = omega (arith, block-room _ _ _ _ _ (c .before .before .together .ensures .1) (c .before .before .before .before .loop .inv .1))
 
 -- src/lib.rt:102:9
 add-at : tie.Need-add-at Inv-loop μ-loop
-add-at c = omega (arith, room _ _ _ _ (c .before .before .loop-test .taken) (c .before .before .before .loop .inv .1))
+add-at c = omega (arith, block-room _ _ _ _ _ (c .before .before .together .ensures .1) (c .before .before .before .before .loop .inv .1))
 
 -- src/lib.rt:103:9
 sub-left : tie.Need-sub-left Inv-loop μ-loop
@@ -99,16 +113,16 @@ loop-less c = search needs
 -- src/lib.rt:100:5
 loop-again : tie.Need-loop-again Inv-loop μ-loop
 loop-again c =
-    let l = c .before .before .before .loop in
-    let h = c .before .before .loop-test .taken in
-    let r = c .count-person .ensures in
+    let l = c .before .before .before .before .loop in
+    let h = c .before .before .together .ensures .1 in
+    let r = c .count-block .ensures in
     let b = r .1 .1 .0 in (
-      l .inv .0 ∙ rw (onward-turn _ _ _ _ _ _ _ _ h, ← r .0, ← r .1 .0),
-      room _ _ _ _ h (l .inv .1),
+      l .inv .0 ∙ rw (onward-block _ _ _ _ _ _ _ _ _ h, ← r .0, ← r .1 .0),
+      block-room _ _ _ _ _ h (l .inv .1),
       r .1 .1 .2,
       r .1 .1 .1,
       omega arith,
-      λ _. l .inv .5 h,
+      omega (arith, l .inv .5),
     )
 
 -- src/lib.rt:107:17
@@ -134,10 +148,12 @@ count-calls-spec =
     over-requires
     over-requires-2
     loop-holds
-    count-person-requires
+    together-requires
+    count-block-requires
     add-without
     cast-at
     mul-at
+    mul-at-2
     add-at
     sub-left
     loop-less
