@@ -8,7 +8,7 @@ use native.Mathlib.Omega.{arith}
 use native.Mathlib.Numerals.{sub-one}
 use native.Mathlib.Nat.{add-assoc, add-comm, add-zero, le-of-suc-le-suc, suc-add, suc-mul, zero-add, zero-mul}
 use lib.Dec.{eqb, ltb}
-use lib.ListN.{drop, getD, length, set}
+use lib.ListN.{drop, getD, length}
 use lib.Seq.{drop-drop}
 use borrow.Author.Tests.{lt-ltb, ltb-true, ltb-false}
 use Rattle.words.specs.Pick.{pick}
@@ -18,9 +18,9 @@ use Rattle.vectors.specs.Vectors.{numbers}
 use Rattle.vectors.proofs.Plain.{byte-at}
 use Rattle.calls.specs.Calls.{slots, alleles, people, called, without, noSlot, howMany, counters, AtMost}
 use Rattle.calls.specs.Halves.{halves}
-use Rattle.calls.specs.Sweep.{raised, folded}
+use Rattle.calls.specs.Sweep.{raised}
 use Rattle.calls.specs.Totals.{total, sums}
-use Rattle.calls.proofs.Counters.{howMany-hit, howMany-miss}
+use Rattle.calls.proofs.Counters.{howMany-miss}
 use Rattle.calls.proofs.Laws.{counted-once, none-counted}
 use Rattle.calls.proofs.Turns.{alleles-cons}
 
@@ -58,11 +58,11 @@ most-rest m [] ys b = b
 most-rest m (x ∷ xs) ys b = most-rest m xs ys (λ k. b (suc k))
 
 -- a code of few alleles is a slot
-few-plain : (x : ℕ) → x / 2 ≤ 3 → kind 1 x ≡ Plain
+pub few-plain : (x : ℕ) → x / 2 ≤ 3 → kind 1 x ≡ Plain
 unfolding kind marked
 few-plain x h = rw (lt-ltb x 0x80 (omega arith))
 
-no-alleles : alleles 1 [] ≡ []
+pub no-alleles : alleles 1 [] ≡ []
 unfolding alleles slots
 no-alleles = refl
 
@@ -81,7 +81,7 @@ people-halves : (len n : ℕ) (l : List ℕ)
     → halves (numbers 1 (suc n * len) l) ≡ halves (numbers 1 len l) ++ halves (numbers 1 (n * len) (drop (len * 1) l))
 people-halves len n l = rw (suc-mul n len, add-comm (n * len) len, numbers-append 1 len (n * len) l, halves-append)
 
-no-halves : (l : List ℕ) → halves (numbers 1 0 l) ≡ []
+pub no-halves : (l : List ℕ) → halves (numbers 1 0 l) ≡ []
 unfolding halves numbers
 no-halves l = refl
 
@@ -100,7 +100,7 @@ few-without len (suc n) l h b =
     rw (few-slot len l h (most-front 3 (halves (numbers 1 len l)) _ g), few-without len n (drop (len * 1) l) h (most-rest 3 (halves (numbers 1 len l)) _ g))
 
 -- a number past the last counter is counted nowhere
-counters-past : (n k x : ℕ) (xs : List ℕ) → k + n ≤ x → counters n k (x ∷ xs) ≡ counters n k xs
+pub counters-past : (n k x : ℕ) (xs : List ℕ) → k + n ≤ x → counters n k (x ∷ xs) ≡ counters n k xs
 unfolding counters
 counters-past zero k x xs h = refl
 counters-past (suc n) k x xs h = rw (howMany-miss k x xs (λ e. omega arith), counters-past n (suc k) x xs (omega arith))
@@ -130,7 +130,7 @@ all-counted m (x ∷ xs) e = by-test (ltb x (suc m)) refl (λ g. all-counted m x
         absurd (omega (arith, g, counted-most (suc m) xs))
 
 -- a number above all of a list isn't in it, and counters from there on aren't raised
-none-found : (k : ℕ) → howMany k [] ≡ 0
+pub none-found : (k : ℕ) → howMany k [] ≡ 0
 unfolding howMany
 none-found k = refl
 

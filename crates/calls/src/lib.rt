@@ -1,16 +1,17 @@
 // The calls of a GT field's bytes, counted in one sweep: people without a genotype, missing alleles, and the calls of each allele.
 // Rests on types for what an element is, on words for its number, and on vectors for a person's numbers.
 ghost use mathlib.Core.Path.{_≡_};
-ghost use mathlib.Core.Logic.{_≢_};
+ghost use mathlib.Core.Bool.{true, false};
+ghost use mathlib.Core.Logic.{_≢_, _⊎_};
 ghost use Prim.Native.Nat.{_+_, _-_, _*_, _^_, _<_, _≤_};
 ghost use lib.ListN.{drop, length};
-ghost use lib.Dec.{eqb};
+ghost use lib.Dec.{eqb, ltb};
 ghost use Rattle.words.specs.Pick.{pick};
 ghost use Rattle.types.specs.Rows.{widthOf};
 ghost use Rattle.types.specs.Elements.{kind};
 ghost use Rattle.vectors.specs.Vectors.{numbers};
-ghost use Rattle.calls.specs.Calls.{slots, alleles, noSlot, people, called, without, counters, AtMost, counted};
-ghost use Rattle.calls.specs.Halves.{halves, listed};
+ghost use Rattle.calls.specs.Calls.{slots, alleles, noSlot, people, called, without, howMany, counters, AtMost, counted};
+ghost use Rattle.calls.specs.Halves.{halves, listed, firstsFew};
 ghost use Rattle.calls.specs.Sweep.{slotted, raised, folded};
 ghost use Rattle.calls.specs.Totals.{total, sums};
 use types::Element;
@@ -28,12 +29,14 @@ enum Slot {
     Call(u32),
 }
 
-// How often a missing allele and each of the first three is called, of elements so few that a byte counts them.
+// How often a missing allele and each of the first three is called, and how many ends of vector there are, of elements so few that
+// a byte counts them.
 struct Few {
     none: u8,
     first: u8,
     second: u8,
     third: u8,
+    ends: u8,
 }
 
 // What an element's number is in the sweep.
@@ -113,7 +116,7 @@ fn count_people(
     lacking
 }
 
-// One where two numbers are the same, with no branch.
+// One where two numbers are the same, else 0.
 fn one_where(k: u8, x: u8) -> u8
     ensures { λ r. ⌜ (r ≡ pick (eqb k x) 1 0) × (r ≤ 1) ⌝ }
 {
@@ -123,10 +126,11 @@ fn one_where(k: u8, x: u8) -> u8
     0
 }
 
-// Counts elements of one byte by their halves, up to 3. The sweep doesn't leave early, so that it takes many elements at once.
+// Counts elements of one byte by their halves, up to 3, and ends of vector. The sweep doesn't leave early, so that it takes many elements at once.
 fn few_of(part: &[u8], from: usize, count: usize) -> Few
     requires { ⌜ (from + count * 1 ≤ length (now part)) × (count < 256) ⌝ }
     ensures { λ r. ⌜ listed r ≡ counters 4 0 (halves (numbers 1 count (drop from (now (part .entry))))) ⌝ }
+    ensures { λ r. ⌜ r .ends ≡ howMany 0x81 (numbers 1 count (drop from (now (part .entry)))) ⌝ }
 {
     let mut left = count;
     let mut at = from;
@@ -134,12 +138,15 @@ fn few_of(part: &[u8], from: usize, count: usize) -> Few
     let mut first: u8 = 0;
     let mut second: u8 = 0;
     let mut third: u8 = 0;
+    let mut ends: u8 = 0;
     while 0 < left {
-        let half = part[at] / 2;
+        let x = part[at];
+        let half = x / 2;
         none += one_where(0, half);
         first += one_where(1, half);
         second += one_where(2, half);
         third += one_where(3, half);
+        ends += one_where(0x81, x);
         at += 1;
         left -= 1;
     }
@@ -148,19 +155,21 @@ fn few_of(part: &[u8], from: usize, count: usize) -> Few
         first,
         second,
         third,
+        ends,
     }
 }
 
 // The same where it can be told: of elements of type 1, fewer than 256.
 fn few_at(part: &[u8], code: u8, from: usize, count: usize) -> Few
     requires { ⌜ (from + count * widthOf code ≤ length (now part)) × (0 < count) ⌝ }
-    ensures { λ r. ⌜ (total (listed r) ≡ count → (code ≡ 1) × (listed r ≡ counters 4 0 (halves (numbers 1 count (drop from (now (part .entry))))))) ⌝ }
+    ensures { λ r. ⌜ (total (listed r) + r .ends ≡ count → (code ≡ 1) × (listed r ≡ counters 4 0 (halves (numbers 1 count (drop from (now (part .entry)))))) × (r .ends ≡ howMany 0x81 (numbers 1 count (drop from (now (part .entry)))))) ⌝ }
 {
     let nothing = Few {
         none: 0,
         first: 0,
         second: 0,
         third: 0,
+        ends: 0,
     };
     if code != 1 {
         return nothing;
@@ -172,10 +181,47 @@ fn few_at(part: &[u8], code: u8, from: usize, count: usize) -> Few
 }
 
 // How many elements were counted.
-fn all_of(none: u8, first: u8, second: u8, third: u8) -> usize
-    ensures { λ r. ⌜ r ≡ none + first + second + third ⌝ }
+fn all_of(none: u8, first: u8, second: u8, third: u8, ends: u8) -> usize
+    ensures { λ r. ⌜ r ≡ none + first + second + third + ends ⌝ }
 {
-    none as usize + first as usize + second as usize + third as usize
+    none as usize + first as usize + second as usize + third as usize + ends as usize
+}
+
+// Whether a first element is a missing allele or one of the first three, and those before it are.
+fn both_few(good: bool, x: u8) -> bool
+    ensures { λ r. ⌜ r ≡ pick good (ltb x 8) false ⌝ }
+{
+    good & (x < 8)
+}
+
+// Whether the first of each pair of elements is a missing allele or one of the first three.
+fn firsts_few(part: &[u8], from: usize, count: usize) -> bool
+    requires { ⌜ from + count * 2 ≤ length (now part) ⌝ }
+    ensures { λ r. ⌜ r ≡ firstsFew (people 1 2 count (drop from (now (part .entry)))) ⌝ }
+{
+    let mut left = count;
+    let mut at = from;
+    let mut good = true;
+    while 0 < left {
+        good = both_few(good, part[at]);
+        at += 2;
+        left -= 1;
+    }
+    good
+}
+
+// Whether ends of vector stand after slots only: there are none, or people have two elements and the first is a slot.
+fn is_padding(part: &[u8], len: usize, from: usize, count: usize, ends: u8) -> bool
+    requires { ⌜ from + count * len ≤ length (now part) ⌝ }
+    ensures { λ r. ⌜ (r ≡ true → (ends ≡ 0) ⊎ ((len ≡ 2) × (firstsFew (people 1 2 count (drop from (now (part .entry)))) ≡ true))) ⌝ }
+{
+    if ends == 0 {
+        return true;
+    }
+    if len != 2 {
+        return false;
+    }
+    firsts_few(part, from, count)
 }
 
 // Raises the counters of the first alleles.
@@ -194,7 +240,8 @@ fn raise_few(f: Few, pairs: &mut [u64; 130])
 }
 
 // Counts the slots of so many people from a place on; how many have none.
-// Where every element is a missing allele or one of the first three, they are counted at once: then each is a slot, whoever has it.
+// Where every element is a missing allele, one of the first three or padding, they are counted at once: then each but the padding is a slot,
+// whoever has it.
 fn count_block(
     part: &[u8],
     code: u8,
@@ -212,11 +259,14 @@ fn count_block(
 {
     let n = count * len;
     let f = few_at(part, code, from, n);
-    if all_of(f.none, f.first, f.second, f.third) != n {
+    if all_of(f.none, f.first, f.second, f.third, f.ends) != n {
         return count_people(part, code, w, len, from, count, pairs);
     }
-    raise_few(f, pairs);
-    0
+    if is_padding(part, len, from, count, f.ends) {
+        raise_few(f, pairs);
+        return 0;
+    }
+    count_people(part, code, w, len, from, count, pairs)
 }
 
 // How many people are counted together, of those that are left: so many that a byte counts their elements.
@@ -224,7 +274,7 @@ fn together(left: usize, len: usize) -> usize
     requires { ⌜ 0 < left ⌝ }
     ensures { λ r. ⌜ (0 < r) × (r ≤ left) ⌝ }
 {
-    let k = words::over(240, len);
+    let k = words::over(128, len);
     if k == 0 {
         return 1;
     }

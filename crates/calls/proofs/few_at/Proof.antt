@@ -1,32 +1,30 @@
 -- `calls::few_at` meets its contract.
 use native.Mathlib.Omega.{arith}
-use native.Mathlib.Nat.{mul-one}
 use Rattle.vectors.proofs.Plain.{width-1}
 use Rattle.calls.specs.Totals.{total}
-use borrow.Author.Needs.{needs}
 use Rattle.calls.proofs.few_at.Statement.{statement}
 use Rattle.calls.proofs.few_at.Tie as tie
 use Rattle.calls.proofs.few_at.Reads as reads
 use Rattle.calls.proofs.few_at.Lts as lts
 use Rattle.calls.proofs.few_of.Reads as few-of-reads
 
--- src/lib.rt:166:9
+-- src/lib.rt:175:9
 returns : tie.Need-returns
 unfolding total
 returns c = λ e. absurd (omega arith)
 
--- src/lib.rt:169:9
+-- src/lib.rt:178:9
 returns-2 : tie.Need-returns-2
 unfolding total
 returns-2 c = λ e. absurd (omega arith)
 
--- src/lib.rt:171:5
+-- src/lib.rt:180:5
 few-of-requires : tie.Need-few-of-requires
 few-of-requires c κs = (rw (← width-1, ← c .before .if1 .left) (c .before .before .before .pre .0), omega arith)
 
--- src/lib.rt:155:1
+-- src/lib.rt:163:1
 returns-3 : tie.Need-returns-3
-returns-3 c = λ e. (c .before .before .if1 .left, c .few-of .ensures)
+returns-3 c = λ e. (c .before .before .if1 .left, c .few-of .ensures .0, c .few-of .ensures .1)
 
 pub few-at-spec : {M : Type 1} → statement M
 few-at-spec = tie.close (tie.spec returns returns-2 few-of-requires returns-3)
