@@ -1,17 +1,21 @@
 -- How long what is written is, and that text is written as it is. Rests on the definitions of specs/Encode.
-use mathlib.Core.Path.{_≡_, refl}
-use mathlib.Core.List.{List, [], _∷_}
+use mathlib.Core.Path.{_≡_, refl, _∙_, sym}
+use mathlib.Core.List.{List, [], _∷_, map}
 use mathlib.Core.Bool.{Bool, true, false}
-use Prim.Native.Nat.{ℕ, suc, _+_, _*_, _%_, _<_}
+use Prim.Native.Nat.{ℕ, suc, _+_, _*_, _%_, _<_, _≤_}
 use native.Mathlib.Omega.{arith}
 use native.Mathlib.Nat.{suc-mul, zero-mul}
 use lib.Dec.{ltb}
-use lib.ListN.{length, getD, length-append}
-use mir.Syntax.{w8}
-use mir.Val.{Fits}
+use lib.IntN.{ℤ}
+use lib.ListN.{length, getD, length-append, length-map}
+use lib.Seq.{sets}
+use mir.Syntax.{w8, w32}
+use mir.Val.{Fits, ofZ}
 use Rattle.words.specs.Pick.{pick}
 use Rattle.words.specs.Words.{bytes, Bytes}
 use Rattle.words.proofs.Words.{length-bytes}
+use Rattle.stores.specs.Stores.{fits, filled}
+use Rattle.stores.proofs.Room.{fits-room, filled-room}
 use Rattle.types.specs.Rows.{widthOf, rowOf}
 use Rattle.types.specs.Elements.{narrowest}
 use Rattle.encode.specs.Encode.{integerBytes, descriptorBytes, narrowed, elementsBytes, valueBytes}
@@ -58,3 +62,13 @@ text-elements (x ∷ xs) h =
 pub text-Bytes : (xs : List ℕ) → ((i : ℕ) → Fits w8 (getD xs i 0)) → Bytes xs
 text-Bytes [] h = tt
 text-Bytes (x ∷ xs) h = ((h 0) .fits, text-Bytes xs (λ i. h (suc i)))
+
+-- integers that have room are stored, and that is told
+pub integers-stored : (buf : List ℕ) (at t w : ℕ) (zs : List ℤ) → w ≡ widthOf t → at + length zs * w ≤ length buf → {out : List ℕ}
+    → out ≡ sets buf at (elementsBytes t (map (ofZ w32) zs))
+    → (true ≡ fits (length buf) at (length (elementsBytes t (map (ofZ w32) zs)))) × (out ≡ filled buf at (elementsBytes t (map (ofZ w32) zs)))
+integers-stored buf at t w zs e h o =
+    let xs = map (ofZ w32) zs in
+    let n : length (elementsBytes t xs) ≡ length zs * w = length-elementsBytes t xs ∙ rw (length-map zs (ofZ w32), e) in
+    let s : at + length (elementsBytes t xs) ≤ length buf = omega (arith, h, n) in
+    (sym (fits-room _ _ _ s), o ∙ sym (filled-room _ _ _ s))

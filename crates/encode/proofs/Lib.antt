@@ -1,3 +1,4 @@
 pub mod Lengths
+pub mod Marks
 pub mod Turns
 pub mod Widest

@@ -3,15 +3,18 @@
 ghost use mathlib.Core.Path.{_≡_};
 ghost use mathlib.Core.List.{map};
 ghost use mathlib.Core.Logic.{_≢_};
-ghost use Prim.Native.Nat.{_+_, _≤_, max};
+ghost use Prim.Native.Nat.{_+_, _*_, _/_, _%_, _≤_, max};
+ghost use lib.Dec.{eqb};
 ghost use lib.ListN.{length};
 ghost use lib.Seq.{sets};
 ghost use mir.Syntax.{w32};
 ghost use mir.Val.{ofZ};
+ghost use Rattle.words.specs.Pick.{pick};
 ghost use Rattle.words.specs.Words.{bytes};
 ghost use Rattle.stores.specs.Stores.{fits, filled};
+ghost use Rattle.types.specs.Rows.{widthOf};
 ghost use Rattle.types.specs.Elements.{kind, narrowest};
-ghost use Rattle.encode.specs.Encode.{integerBytes, descriptorBytes, typeFor, widest, markedAs, narrowed, elementsBytes};
+ghost use Rattle.encode.specs.Encode.{integerBytes, descriptorBytes, typeFor, widest, narrowed, elementsBytes};
 
 // The narrowest type that takes an integer, given by its 32 bits: with its range a code is put together without a bound of its own.
 fn narrowest_code(bits: u32) -> u8
@@ -120,31 +123,29 @@ pub fn put_descriptor(buf: &mut [u8], at: usize, code: u8, n: u32) -> bool
     true
 }
 
-// The number whose low bytes are written for an integer of a narrow type, whose missing mark is given: a mark as that type's own.
-fn mark_as(missing: u32, bits: u32) -> u32
-    requires { ⌜ missing ≤ 32768 ⌝ }
-    ensures { λ r. ⌜ r ≡ markedAs missing bits ⌝ }
+// What the mark of a narrow type has more than the low bytes of type 3's: nothing of a number that is no mark. No branch is left of it, so
+// that a sweep takes many elements at once.
+fn mark_step(step: u32, bits: u32) -> u32
+    ensures { λ r. ⌜ r ≡ pick (eqb (bits / 2) 0x40000000) step 0 ⌝ }
 {
-    if bits == 0x80000000 {
-        return missing;
+    if bits / 2 == 0x40000000 {
+        return step;
     }
-    if bits == 0x80000001 {
-        return missing + 1;
-    }
-    bits
+    0
 }
 
-// The number whose low bytes are written for an element of a type, given by its 32 bits.
-fn narrow(code: u8, bits: u32) -> u32
-    ensures { λ r. ⌜ r ≡ narrowed code bits ⌝ }
+// The one byte of an element of type 1, given by its 32 bits.
+fn byte_of(bits: u32) -> u8
+    ensures { λ r. ⌜ r ≡ narrowed 1 bits % 256 ⌝ }
 {
-    if code == 1 {
-        return mark_as(0x80, bits);
-    }
-    if code == 2 {
-        return mark_as(0x8000, bits);
-    }
-    bits
+    (bits % 256 + mark_step(0x80, bits)) as u8
+}
+
+// The number of the two bytes of an element of type 2, given by its 32 bits.
+fn pair_of(bits: u32) -> u32
+    ensures { λ r. ⌜ r ≡ narrowed 2 bits % 65536 ⌝ }
+{
+    bits % 65536 + mark_step(0x8000, bits)
 }
 
 // Stores the low bytes of a number, as many as an element is wide. One width after the other, without a loop: it stands in one itself.
@@ -172,6 +173,62 @@ fn store(buf: &mut [u8], at: usize, width: u8, v: u32)
     buf[at] = (v % 256) as u8;
 }
 
+// Stores integers in type 1, one after the other.
+fn put_bytes(buf: &mut [u8], at: usize, values: &[i32])
+    requires { ⌜ at + length (now values) ≤ length (now buf) ⌝ }
+    ensures { λ _. ⌜ now (buf .exit) ≡ sets (now (buf .entry)) at (elementsBytes 1 (map (ofZ w32) (now (values .entry)))) ⌝ }
+{
+    let mut o = at;
+    let mut i = 0;
+    while i < values.len() {
+        buf[o] = byte_of(words::bits(values[i]));
+        o += 1;
+        i += 1;
+    }
+}
+
+// Stores integers in type 2, one after the other.
+fn put_pairs(buf: &mut [u8], at: usize, values: &[i32])
+    requires { ⌜ at + length (now values) * 2 ≤ length (now buf) ⌝ }
+    ensures { λ _. ⌜ now (buf .exit) ≡ sets (now (buf .entry)) at (elementsBytes 2 (map (ofZ w32) (now (values .entry)))) ⌝ }
+{
+    let mut o = at;
+    let mut i = 0;
+    while i < values.len() {
+        store(buf, o, 2, pair_of(words::bits(values[i])));
+        o += 2;
+        i += 1;
+    }
+}
+
+// Stores integers in type 3, one after the other.
+fn put_fours(buf: &mut [u8], at: usize, values: &[i32])
+    requires { ⌜ at + length (now values) * 4 ≤ length (now buf) ⌝ }
+    ensures { λ _. ⌜ now (buf .exit) ≡ sets (now (buf .entry)) at (elementsBytes 3 (map (ofZ w32) (now (values .entry)))) ⌝ }
+{
+    let mut o = at;
+    let mut i = 0;
+    while i < values.len() {
+        store(buf, o, 4, words::bits(values[i]));
+        o += 4;
+        i += 1;
+    }
+}
+
+// Stores integers in a type that is none of these, as wide as it is, one after the other.
+fn put_others(buf: &mut [u8], at: usize, code: u8, w: u8, values: &[i32])
+    requires { ⌜ (at + length (now values) * w ≤ length (now buf)) × (w ≡ widthOf code) × (w ≤ 4) × (w ≢ 3) × (code ≢ 1) × (code ≢ 2) ⌝ }
+    ensures { λ _. ⌜ now (buf .exit) ≡ sets (now (buf .entry)) at (elementsBytes code (map (ofZ w32) (now (values .entry)))) ⌝ }
+{
+    let mut o = at;
+    let mut i = 0;
+    while i < values.len() {
+        store(buf, o, w, words::bits(values[i]));
+        o += w as usize;
+        i += 1;
+    }
+}
+
 // Stores integers in a type, one after the other, and says whether there was room.
 pub fn put_integers(buf: &mut [u8], at: usize, code: u8, values: &[i32]) -> bool
     ensures told { λ r. ⌜ r ≡ fits (length (now (buf .entry))) at (length (elementsBytes code (map (ofZ w32) (now (values .entry))))) ⌝ }
@@ -182,13 +239,19 @@ pub fn put_integers(buf: &mut [u8], at: usize, code: u8, values: &[i32]) -> bool
     if !stores::has_room(buf.len(), at, values.len() * w as usize) {
         return false;
     }
-    let mut o = at;
-    let mut i = 0;
-    while i < values.len() {
-        store(buf, o, w, narrow(code, words::bits(values[i])));
-        o += w as usize;
-        i += 1;
+    if code == 1 {
+        put_bytes(buf, at, values);
+        return true;
     }
+    if code == 2 {
+        put_pairs(buf, at, values);
+        return true;
+    }
+    if code == 3 {
+        put_fours(buf, at, values);
+        return true;
+    }
+    put_others(buf, at, code, w, values);
     true
 }
 

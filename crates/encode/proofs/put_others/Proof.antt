@@ -1,0 +1,117 @@
+-- `encode::put_others` meets its contract.
+use mathlib.Core.Path.{_≡_, _∙_, sym, refl}
+use mathlib.Core.List.{map}
+use Prim.Native.Nat.{_+_, _-_, _*_, _≤_}
+use native.Mathlib.Omega.{arith}
+use lib.IntN.{pos}
+use lib.ListN.{length, drop, getD, length-map}
+use lib.Seq.{sets}
+use mir.Syntax.{w32}
+use mir.Val.{ofZ}
+use Rattle.words.proofs.Sign.{bits-back}
+use Rattle.words.specs.Words.{bytes}
+use native.Mathlib.Nat.{sub-zero}
+use Rattle.encode.proofs.Marks.{other-narrowed}
+use Rattle.encode.proofs.Turns.{element-room, elements-turn-bits, elements-end}
+use Rattle.encode.specs.Encode.{narrowed, elementsBytes}
+use borrow.Author.Needs.{needs}
+use Rattle.encode.proofs.put_others.Statement.{statement}
+use Rattle.encode.proofs.put_others.Tie as tie
+use Rattle.encode.proofs.put_others.Reads as reads
+use Rattle.encode.proofs.put_others.Lts as lts
+use Rattle.encode.proofs.store.Reads as store-reads
+use Rattle.words.proofs.bits.Reads as bits-reads
+
+abbrev Inv-loop : tie.InvT-loop
+Inv-loop buf₀ at code w values o₀ i₀ buf o i =
+    (sets buf₀ at (elementsBytes code (map (ofZ w32) values)) ≡ sets buf o (elementsBytes code (drop i (map (ofZ w32) values))))
+    × (o + (length values - i) * w ≤ length buf₀)
+    × (length buf ≡ length buf₀)
+    × (i ≤ length values)
+
+abbrev μ-loop : tie.MeasureT-loop
+μ-loop buf₀ at code w values o₀ i₀ buf o i =
+    length values - i
+
+-- src/lib.rt:225:5
+loop-holds : tie.Need-loop-holds Inv-loop μ-loop
+loop-holds c =
+    (refl, rw sub-zero (c .before .pre .0), refl, omega arith)
+
+-- src/lib.rt:226:38
+mul-bits : tie.Need-mul-bits Inv-loop μ-loop
+mul-bits c = search needs
+
+-- src/lib.rt:226:38
+shared-slice-copy-out-bits : tie.Need-shared-slice-copy-out-bits Inv-loop μ-loop
+shared-slice-copy-out-bits c = search needs
+
+-- src/lib.rt:226:26
+bits-requires : tie.Need-bits-requires Inv-loop μ-loop
+bits-requires c κs = search needs
+
+-- src/lib.rt:226:9
+store-requires : tie.Need-store-requires Inv-loop μ-loop
+store-requires c κs =
+    let l = c .before .before .before .before .loop in
+    let a = c .before .before .before .before .before .before .args in
+    let p = c .before .before .before .before .before .before .pre in
+    let r = element-room (l .o) (length (a .values .now)) (l .i) (a .w) (length (a .buf .now)) (c .before .before .before .loop-test .taken) (l .inv .1) in
+    (rw (l .inv .2) (r .0), p .2, p .3)
+
+-- src/lib.rt:227:9
+add-o : tie.Need-add-o Inv-loop μ-loop
+add-o c = search needs
+
+-- src/lib.rt:228:9
+add-i : tie.Need-add-i Inv-loop μ-loop
+add-i c = search needs
+
+-- src/lib.rt:225:5
+loop-less : tie.Need-loop-less Inv-loop μ-loop
+loop-less c = search needs
+
+-- src/lib.rt:225:5
+loop-again : tie.Need-loop-again Inv-loop μ-loop
+loop-again c =
+    let l = c .before .before .before .before .before .before .before .loop in
+    let a = c .before .before .before .before .before .before .before .before .before .args in
+    let h = c .before .before .before .before .before .before .loop-test .taken in
+    let z = getD (a .values .now) (l .i) (pos 0) in
+    let b : c .before .before .before .bits .result ≡ ofZ w32 z = c .before .before .before .bits .ensures ∙ bits-back z (c .before .before .before .before .bits-arg .given) in
+    let p = c .before .before .before .before .before .before .before .before .before .pre in
+    let r = element-room (l .o) (length (a .values .now)) (l .i) (a .w) (length (a .buf .now)) h (l .inv .1) in
+    let t = elements-turn-bits (l .buf) (l .o) (a .code) (a .values .now) (l .i) h in
+    let e : sets (l .buf) (l .o) (elementsBytes (a .code) (drop (l .i) (map (ofZ w32) (a .values .now))))
+    ≡ sets (sets (l .buf) (l .o) (bytes (a .w) (ofZ w32 z))) (l .o + a .w) (elementsBytes (a .code) (drop (l .i + 1) (map (ofZ w32) (a .values .now))))
+    = t ∙ rw (← p .1, other-narrowed (a .code) (ofZ w32 z) (p .4) (p .5)) in
+    (l .inv .0 ∙ e ∙ rw (c .before .before .store .ensures, b), r .1, c .before .before .store .kept .0 ∙ l .inv .2, omega arith)
+
+-- src/lib.rt:219:1
+same-length : tie.Need-same-length Inv-loop μ-loop
+same-length c = search needs
+
+-- src/lib.rt:219:1
+returns : tie.Need-returns Inv-loop μ-loop
+returns c =
+    let l = c .before .loop in
+    let a = c .before .before .before .args in
+    sym (l .inv .0 ∙ elements-end (l .buf) (l .o) (a .code) (map (ofZ w32) (a .values .now)) (l .i) (rw length-map (c .loop-test .left)))
+
+pub put-others-spec : {M : Type 1} → statement M
+put-others-spec =
+    tie.close
+    (tie.spec
+    Inv-loop
+    μ-loop
+    loop-holds
+    mul-bits
+    shared-slice-copy-out-bits
+    bits-requires
+    store-requires
+    add-o
+    add-i
+    loop-less
+    loop-again
+    same-length
+    returns)
