@@ -3,8 +3,8 @@
 ghost use mathlib.Core.Path.{_≡_};
 ghost use mathlib.Core.List.{map};
 ghost use mathlib.Core.Logic.{_≢_};
-ghost use Prim.Native.Nat.{_+_, _*_, _/_, _%_, _≤_, max};
-ghost use lib.Dec.{eqb};
+ghost use Prim.Native.Nat.{_+_, _*_, _%_, _≤_};
+ghost use lib.Dec.{leb};
 ghost use lib.ListN.{length};
 ghost use lib.Seq.{sets};
 ghost use mir.Syntax.{w32};
@@ -14,6 +14,7 @@ ghost use Rattle.words.specs.Words.{bytes};
 ghost use Rattle.stores.specs.Stores.{fits, filled};
 ghost use Rattle.types.specs.Rows.{widthOf};
 ghost use Rattle.types.specs.Elements.{kind, narrowest};
+ghost use Rattle.encode.specs.Marks.{isMark};
 ghost use Rattle.encode.specs.Encode.{integerBytes, descriptorBytes, typeFor, widest, narrowed, elementsBytes};
 
 // The narrowest type that takes an integer, given by its 32 bits: with its range a code is put together without a bound of its own.
@@ -24,28 +25,63 @@ fn narrowest_code(bits: u32) -> u8
     types::narrowest_type(bits)
 }
 
-// The type that an integer, given by its 32 bits, takes by itself: a mark takes the narrowest.
-fn type_for(x: u32) -> u8
-    ensures { λ r. ⌜ r ≡ typeFor (kind 3 x) x ⌝ }
-    ensures { λ r. ⌜ (1 ≤ r) × (r ≤ 3) ⌝ }
+// Whether 32 bits are a mark of type 3: missing and end of vector have the same half, and no other number has it.
+fn is_mark(x: u32) -> bool
+    ensures { λ r. ⌜ r ≡ isMark x ⌝ }
 {
-    if x == 0x80000000 {
-        return 1;
-    }
-    if x == 0x80000001 {
-        return 1;
-    }
-    narrowest_code(x)
+    x / 2 == 0x40000000
 }
 
-// The larger of two types.
-fn wider(a: u8, b: u8) -> u8
-    ensures { λ r. ⌜ r ≡ max a b ⌝ }
+// Whether type 1 takes an integer, given by its 32 bits: one of its range, or a mark.
+fn fits_byte(x: u32) -> bool
+    ensures { λ r. ⌜ r ≡ leb (typeFor (kind 3 x) x) 1 ⌝ }
 {
-    if a < b {
-        return b;
+    if x <= 127 {
+        return true;
     }
-    a
+    if 0xFFFFFF88 <= x {
+        return true;
+    }
+    is_mark(x)
+}
+
+// Whether type 2 takes an integer, given by its 32 bits.
+fn fits_pair(x: u32) -> bool
+    ensures { λ r. ⌜ r ≡ leb (typeFor (kind 3 x) x) 2 ⌝ }
+{
+    if x <= 32767 {
+        return true;
+    }
+    if 0xFFFF8008 <= x {
+        return true;
+    }
+    is_mark(x)
+}
+
+// Whether type 1 takes integers, every one. No sweep leaves early, so that it takes many at once.
+fn all_bytes(values: &[i32]) -> bool
+    ensures { λ r. ⌜ r ≡ leb (widest (map (ofZ w32) (now (values .entry)))) 1 ⌝ }
+{
+    let mut good = true;
+    let mut i = 0;
+    while i < values.len() {
+        good = good & fits_byte(words::bits(values[i]));
+        i += 1;
+    }
+    good
+}
+
+// Whether type 2 takes integers, every one.
+fn all_pairs(values: &[i32]) -> bool
+    ensures { λ r. ⌜ r ≡ leb (widest (map (ofZ w32) (now (values .entry)))) 2 ⌝ }
+{
+    let mut good = true;
+    let mut i = 0;
+    while i < values.len() {
+        good = good & fits_pair(words::bits(values[i]));
+        i += 1;
+    }
+    good
 }
 
 // The type in which integers are written: that of the widest which is no mark.
@@ -53,13 +89,13 @@ pub fn widest_type(values: &[i32]) -> u8
     ensures { λ r. ⌜ r ≡ widest (map (ofZ w32) (now (values .entry))) ⌝ }
     ensures { λ r. ⌜ (1 ≤ r) × (r ≤ 3) ⌝ }
 {
-    let mut code = 1;
-    let mut i = 0;
-    while i < values.len() {
-        code = wider(code, type_for(words::bits(values[i])));
-        i += 1;
+    if all_bytes(values) {
+        return 1;
     }
-    code
+    if all_pairs(values) {
+        return 2;
+    }
+    3
 }
 
 // The bytes that an integer takes, with its descriptor.
@@ -126,9 +162,9 @@ pub fn put_descriptor(buf: &mut [u8], at: usize, code: u8, n: u32) -> bool
 // What the mark of a narrow type has more than the low bytes of type 3's: nothing of a number that is no mark. No branch is left of it, so
 // that a sweep takes many elements at once.
 fn mark_step(step: u32, bits: u32) -> u32
-    ensures { λ r. ⌜ r ≡ pick (eqb (bits / 2) 0x40000000) step 0 ⌝ }
+    ensures { λ r. ⌜ r ≡ pick (isMark bits) step 0 ⌝ }
 {
-    if bits / 2 == 0x40000000 {
+    if is_mark(bits) {
         return step;
     }
     0
