@@ -1,3 +1,4 @@
 pub mod Filters
+pub mod Plain
 pub mod Text
 pub mod Turns

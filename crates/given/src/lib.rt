@@ -3,8 +3,10 @@
 ghost use mathlib.Core.Path.{_≡_};
 ghost use mathlib.Core.Bool.{false};
 ghost use mathlib.Core.List.{map};
+ghost use Prim.Native.Nat.{_<_};
 ghost use mir.Syntax.{w32};
 ghost use mir.Val.{ofZ};
+ghost use Rattle.vectors.specs.Plain.{passed, allPassed};
 ghost use Rattle.vectors.specs.Vectors.{vector};
 ghost use Rattle.given.specs.Given.{numberOf, elementsNumber, filtersNumber, alleleNumber};
 use vectors::Judged;
@@ -37,8 +39,39 @@ fn integers_in(part: &[i32], most: u32) -> Judged
     Judged::Sound
 }
 
-// The number for integers that are vectors of `len` each; a plain one above `most` gives 10.
-pub fn judge_integers(values: &[i32], len: usize, most: u32) -> u32
+// Whether an element goes on in a vector that has not ended: missing, or up to the most and outside the marks from `low` to `high`.
+fn passes(low: u32, high: u32, missing: u32, most: u32, x: u32) -> bool
+    requires { ⌜ missing < low ⌝ }
+    ensures { λ r. ⌜ r ≡ passed low high missing most x ⌝ }
+{
+    if x == missing {
+        return true;
+    }
+    if most < x {
+        return false;
+    }
+    if x < low {
+        return true;
+    }
+    high < x
+}
+
+// Whether integers go on, every one. The sweep does not leave early, so that it takes many at once.
+fn integers_pass(values: &[i32], most: u32) -> bool
+    ensures { λ r. ⌜ r ≡ allPassed 0x80000001 0x80000007 0x80000000 most (map (ofZ w32) (now (values .entry))) ⌝ }
+{
+    let mut good = true;
+    let mut i = 0;
+    while i < values.len() {
+        let x = words::bits(values[i]);
+        good = good & passes(0x80000001, 0x80000007, 0x80000000, most, x);
+        i += 1;
+    }
+    good
+}
+
+// The number for integers, vector after vector and one element after the other.
+fn integers_in_turn(values: &[i32], len: usize, most: u32) -> u32
     ensures { λ r. ⌜ r ≡ elementsNumber most 3 len (map (ofZ w32) (now (values .entry))) ⌝ }
 {
     let mut left = words::over(values.len(), len);
@@ -53,6 +86,16 @@ pub fn judge_integers(values: &[i32], len: usize, most: u32) -> u32
         left -= 1;
     }
     0
+}
+
+// The number for integers that are vectors of `len` each; a plain one above `most` gives 10.
+pub fn judge_integers(values: &[i32], len: usize, most: u32) -> u32
+    ensures { λ r. ⌜ r ≡ elementsNumber most 3 len (map (ofZ w32) (now (values .entry))) ⌝ }
+{
+    if integers_pass(values, most) {
+        return 0;
+    }
+    integers_in_turn(values, len, most)
 }
 
 // The floats of one vector, given by their bits.
@@ -72,8 +115,21 @@ fn floats_in(part: &[u32]) -> Judged
     Judged::Sound
 }
 
-// The number for floats, given by their bits, that are vectors of `len` each.
-pub fn judge_floats(bits: &[u32], len: usize) -> u32
+// Whether floats go on, every one.
+fn floats_pass(bits: &[u32]) -> bool
+    ensures { λ r. ⌜ r ≡ allPassed 0x7F800002 0x7F800007 0x7F800001 0xFFFFFFFF (now (bits .entry)) ⌝ }
+{
+    let mut good = true;
+    let mut i = 0;
+    while i < bits.len() {
+        good = good & passes(0x7F800002, 0x7F800007, 0x7F800001, 0xFFFFFFFF, bits[i]);
+        i += 1;
+    }
+    good
+}
+
+// The number for floats, vector after vector and one element after the other.
+fn floats_in_turn(bits: &[u32], len: usize) -> u32
     ensures { λ r. ⌜ r ≡ elementsNumber 0xFFFFFFFF 5 len (now (bits .entry)) ⌝ }
 {
     let mut left = words::over(bits.len(), len);
@@ -88,6 +144,16 @@ pub fn judge_floats(bits: &[u32], len: usize) -> u32
         left -= 1;
     }
     0
+}
+
+// The number for floats, given by their bits, that are vectors of `len` each.
+pub fn judge_floats(bits: &[u32], len: usize) -> u32
+    ensures { λ r. ⌜ r ≡ elementsNumber 0xFFFFFFFF 5 len (now (bits .entry)) ⌝ }
+{
+    if floats_pass(bits) {
+        return 0;
+    }
+    floats_in_turn(bits, len)
 }
 
 // The number for text that is vectors of `len` bytes each.
