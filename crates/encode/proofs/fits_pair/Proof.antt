@@ -18,7 +18,7 @@ returns-2 : tie.Need-returns-2
 returns-2 c =
     rw (fits-2 _, lt-leb _ _ (c .before .if1 .left), le-leb _ _ (c .if2 .taken))
 
--- src/lib.rt:1:1
+-- src/lib.rt:59:5
 is-mark-requires : tie.Need-is-mark-requires
 is-mark-requires c κs = search needs
 

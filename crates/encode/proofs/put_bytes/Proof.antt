@@ -1,5 +1,5 @@
--- `encode::put_bytes` meets its contract.
-use mathlib.Core.Path.{_≡_, _∙_, sym, refl}
+-- `encode::put_bytes` meets its contract. The loop's invariant: all elements stored are those that are left, stored from here on.
+use mathlib.Core.Path.{_≡_, _∙_, sym}
 use mathlib.Core.List.{map}
 use Prim.Native.Nat.{_+_, _-_, _%_, _≤_}
 use native.Mathlib.Omega.{arith}

@@ -1,4 +1,4 @@
--- `encode::put_others` meets its contract.
+-- `encode::put_others` meets its contract. The loop's invariant: all elements stored are those that are left, stored from here on.
 use mathlib.Core.Path.{_≡_, _∙_, sym, refl}
 use mathlib.Core.List.{map}
 use Prim.Native.Nat.{_+_, _-_, _*_, _≤_}
@@ -13,7 +13,7 @@ use Rattle.words.specs.Words.{bytes}
 use native.Mathlib.Nat.{sub-zero}
 use Rattle.encode.proofs.Marks.{other-narrowed}
 use Rattle.encode.proofs.Turns.{element-room, elements-turn-bits, elements-end}
-use Rattle.encode.specs.Encode.{narrowed, elementsBytes}
+use Rattle.encode.specs.Encode.{elementsBytes}
 use borrow.Author.Needs.{needs}
 use Rattle.encode.proofs.put_others.Statement.{statement}
 use Rattle.encode.proofs.put_others.Tie as tie
