@@ -12,10 +12,11 @@ use lib.ListN.{drop, getD, length}
 use lib.Seq.{drop-drop}
 use borrow.Author.Tests.{lt-ltb, ltb-true, ltb-false}
 use Rattle.words.specs.Pick.{pick}
+use Rattle.types.specs.Rows.{widthOf}
 use Rattle.types.specs.Elements.{kind, marked}
 use Rattle.types.specs.declared.Element.the-variants.{Plain}
 use Rattle.vectors.specs.Vectors.{numbers}
-use Rattle.vectors.proofs.Plain.{byte-at}
+use Rattle.vectors.proofs.Plain.{byte-at, width-1}
 use Rattle.calls.specs.Calls.{slots, alleles, people, called, without, noSlot, howMany, counters, AtMost}
 use Rattle.calls.specs.Halves.{halves}
 use Rattle.calls.specs.Sweep.{raised}
@@ -23,6 +24,10 @@ use Rattle.calls.specs.Totals.{total, sums}
 use Rattle.calls.proofs.Counters.{howMany-miss}
 use Rattle.calls.proofs.Laws.{counted-once, none-counted}
 use Rattle.calls.proofs.Turns.{alleles-cons}
+
+-- elements of type 1 have a byte each
+pub one-wide : (t at n m : ℕ) → t ≡ 1 → at + n * widthOf t ≤ m → at + n * 1 ≤ m
+one-wide t at n m e h = rw (e, width-1) at h
 
 -- one turn of counting the elements whose half is k
 pub half-turn : (s : List ℕ) (k n at c r : ℕ) → 0 < n → r ≡ pick (eqb k (getD s at 0 / 2)) 1 0

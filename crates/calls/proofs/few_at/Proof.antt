@@ -1,7 +1,7 @@
 -- `calls::few_at` meets its contract.
 use native.Mathlib.Omega.{arith}
-use Rattle.vectors.proofs.Plain.{width-1}
 use Rattle.calls.specs.Totals.{total}
+use Rattle.calls.proofs.Halves.{one-wide}
 use Rattle.calls.proofs.few_at.Statement.{statement}
 use Rattle.calls.proofs.few_at.Tie as tie
 use Rattle.calls.proofs.few_at.Reads as reads
@@ -20,7 +20,7 @@ returns-2 c = λ e. absurd (omega arith)
 
 -- src/lib.rt:180:5
 few-of-requires : tie.Need-few-of-requires
-few-of-requires c κs = (rw (← width-1, ← c .before .if1 .left) (c .before .before .before .pre .0), omega arith)
+few-of-requires c κs = (one-wide _ _ _ _ (c .before .if1 .left) (c .before .before .before .pre .0), omega arith)
 
 -- src/lib.rt:163:1
 returns-3 : tie.Need-returns-3
