@@ -1,4 +1,5 @@
--- How long what is written is, and that text is written as it is. Rests on the definitions of specs/Encode.
+-- How long what is written is, that text is written as it is, and that integers with room are stored. Rests on the definitions of
+-- specs/Encode and on stores.
 use mathlib.Core.Path.{_≡_, refl, _∙_, sym}
 use mathlib.Core.List.{List, [], _∷_, map}
 use mathlib.Core.Bool.{Bool, true, false}
