@@ -127,14 +127,14 @@ def build(case, record):
 def main():
     runs = {"read": read, "fetch": fetch, "walk": walk, "tally": tally, "choose": choose, "build": build}
     ran, wrong = collections.Counter(), 0
-    with open(ROOT / "tests" / "vectors" / "functions.jsonl", encoding="utf-8") as lines:
-        for number, line in enumerate(lines, 1):
+    for name, run in runs.items():
+        for number, line in enumerate((ROOT / "tests" / "vectors" / f"{name}.jsonl").read_text("utf-8").splitlines(), 1):
             case = json.loads(line)
-            ran[case["op"]] += 1
-            got = runs[case["op"]](case, bytes.fromhex(case["record"]))
+            ran[name] += 1
+            got = run(case, bytes.fromhex(case["record"]))
             if got != case["want"]:
                 wrong += 1
-                print(f"vector {number}, {case['op']}: got {str(got)[:300]}, wanted {str(case['want'])[:300]}")
+                print(f"{name}.jsonl:{number}: got {str(got)[:300]}, wanted {str(case['want'])[:300]}")
     print("tests/vectors.sh: " + ", ".join(f"{n} of {op}" for op, n in ran.items()) + f", {wrong} wrong")
     return 1 if wrong or not ran else 0
 

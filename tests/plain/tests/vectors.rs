@@ -3,10 +3,10 @@
 mod support;
 
 use std::collections::BTreeMap;
+use std::fs;
 use std::io::Write;
 use std::path::{Path, PathBuf};
 use std::process::{Command, Stdio};
-use std::fs;
 
 use plain::{choose, fetch, info_start, pair_at, read, tally, Builder, Facts, Kind, Refusal, Turn};
 use support::Json;
@@ -17,17 +17,18 @@ fn beside(name: &str) -> PathBuf {
 
 #[test]
 fn functions() {
-    let lines = fs::read_to_string(beside("vectors/functions.jsonl")).expect("the vectors");
-    let mut agree: BTreeMap<String, (u32, u32)> = BTreeMap::new();
-    for (number, line) in lines.lines().enumerate() {
-        let case = Json::read(line);
-        let op = case.get("op").unwrap().text();
-        let (want, got) = (case.get("want").unwrap(), run(op, &case));
-        let (agreed, all) = agree.entry(op.to_string()).or_default();
-        *all += 1;
-        *agreed += u32::from(*want == got);
-        if *want != got {
-            println!("case {} ({op}): want {want:?}, got {got:?}", number + 1);
+    let mut agree: BTreeMap<&str, (u32, u32)> = BTreeMap::new();
+    for op in ["read", "fetch", "walk", "tally", "choose", "build"] {
+        let lines = fs::read_to_string(beside(&format!("vectors/{op}.jsonl"))).expect("the vectors");
+        let (agreed, all) = agree.entry(op).or_default();
+        for (number, line) in lines.lines().enumerate() {
+            let case = Json::read(line);
+            let (want, got) = (case.get("want").unwrap(), run(op, &case));
+            *all += 1;
+            *agreed += u32::from(*want == got);
+            if *want != got {
+                println!("{op}.jsonl:{}: want {want:?}, got {got:?}", number + 1);
+            }
         }
     }
     println!("{agree:?}");
