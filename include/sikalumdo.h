@@ -47,6 +47,7 @@
  *     type. For an empty slice, too, the pointer is not null.
  *   - What a call writes to (`out`, `buf`, `state`) overlaps nothing else that is lent to that call.
  *   - While a call runs, no other thread writes to what is lent, or reads what the call writes to.
+ *   - The stack has room for 600 KiB: a FILTER of very many offsets is judged with half a megabyte of it.
  * Calls share nothing: any number of threads may call at once on memory of their own. Nothing is allocated or kept.
  */
 #ifndef SIKALUMDO_H
