@@ -1,28 +1,17 @@
 -- A value stored, descriptor first and then its elements. Rests on encode's bytes and on stores.
 use mathlib.Core.Path.{_≡_, _∙_, ap, sym}
-use mathlib.Core.List.{List, [], _∷_, _++_}
+use mathlib.Core.List.{List, [], _∷_}
 use Prim.Native.Nat.{ℕ, suc, _+_, _≤_}
 use native.Mathlib.Omega.{arith}
-use lib.ListN.{length, getD, length-append}
-use lib.Seq.{sets, length-sets}
+use lib.ListN.{length, getD}
+use lib.Seq.{sets}
 use mir.Syntax.{w8}
 use mir.Val.{Fits}
 use Rattle.words.specs.Words.{Bytes}
-use Rattle.words.proofs.Stores.{sets-append}
 use Rattle.stores.specs.Stores.{filled}
-use Rattle.stores.proofs.Room.{filled-room}
+use Rattle.stores.proofs.Room.{filled-append}
 use Rattle.encode.specs.Encode.{descriptorBytes, elementsBytes, valueBytes}
 use Rattle.encode.proofs.Lengths.{length-descriptor-any, text-elements}
-
--- one list stored, and another right behind it
-pub filled-append : (buf : List ℕ) (at n : ℕ) (xs ys : List ℕ) → length xs ≡ n → at + length (xs ++ ys) ≤ length buf
-    → filled (filled buf at xs) (at + n) ys ≡ sets buf at (xs ++ ys)
-filled-append buf at n xs ys e h =
-    let both = length-append xs ys in
-    let one : filled buf at xs ≡ sets buf at xs = filled-room buf at xs (omega arith) in
-    let two : filled (sets buf at xs) (at + n) ys ≡ sets (sets buf at xs) (at + n) ys =
-    filled-room (sets buf at xs) (at + n) ys (rw length-sets (omega arith)) in
-    rw (one, two, ← e) (sym (sets-append xs ys buf at))
 
 pub value-stored : (buf : List ℕ) (at t n : ℕ) (xs : List ℕ) → at + length (valueBytes t n xs) ≤ length buf
     → filled (filled buf at (descriptorBytes t n)) (at + length (descriptorBytes 0 n)) (elementsBytes t xs) ≡ sets buf at (valueBytes t n xs)

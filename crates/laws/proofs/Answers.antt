@@ -3,11 +3,12 @@ use Prim.Native.Nat.{ℕ, _+_, _*_, _/_, _%_, _<_, _≤_}
 use mathlib.Core.Path.{_≡_, _∙_, sym, refl, ap}
 use mathlib.Core.List.{List, _++_}
 use native.Mathlib.Omega.{arith}
-use lib.ListN.{length, length-append}
+use lib.ListN.{length, length-append, length-replicate}
 use lib.Seq.{take-at}
 use native.Mathlib.Nat.{mod-eq-of-lt}
 use borrow.Author.Tests.{le-ltb}
 use Rattle.build.specs.Order.{rank}
+use Rattle.build.specs.Turns.{freshState}
 use Rattle.build.specs.declared.Stage.{Stage}
 use Rattle.build.specs.declared.Stage.the-variants.{Fresh, Begun, Named, Alleles, Filtered, Infos, Formats, Ended}
 use Rattle.build.specs.declared.Builder.{Builder}
@@ -41,6 +42,10 @@ state-back st rest r =
     let room : 266 ≤ length (stateNumbers st ++ rest) = omega (arith, all, r .keys) in
     rw (le-ltb _ _ room, mod-eq-of-lt (r .alleles), mod-eq-of-lt (r .infos), mod-eq-of-lt (r .formats), stage-back (st .stage), take-at (st .keys) rest 256 (r .keys))
 
+fresh-ranges : Ranges freshState
+unfolding freshState
+fresh-ranges = record { alleles = omega arith; infos = omega arith; formats = omega arith; keys = length-replicate {A = ℕ} 256 0 }
+
 pub promises-fix : Answers
 promises-fix =
     record {
@@ -48,5 +53,6 @@ promises-fix =
       both = λ promised first second p q. λ i. ((p .0 ∙ sym (q .0)) i, (p .1 ∙ sym (q .1)) i);
       number = number-told;
       low = low-told;
+      fresh = fresh-ranges;
       state = state-back;
     }

@@ -1,5 +1,9 @@
 -- What is chosen of the sample record is computed. Rests on specs/Cut.
-use mathlib.Core.Path.{refl}
+use mathlib.Core.Path.{_≡_, refl}
+use mathlib.Core.List.{[], _∷_}
+use Prim.Native.Nat.{ℕ, zero, suc, _<_}
+use native.Mathlib.Omega.{arith}
+use Rattle.chosen.specs.Divisions.{Division, other}
 use Rattle.words.specs.Lists.{among}
 use Rattle.words.specs.Words.{le, number, bytes, outside}
 use Rattle.types.specs.Rows.{rowOf, widthOf}
@@ -24,6 +28,15 @@ use Rattle.choose.specs.Choose.{choosing}
 use Rattle.laws.specs.Sample.{sample}
 use Rattle.laws.specs.Cut.{Cut, second}
 
+two : Division 2 (0 ∷ []) (1 ∷ [])
+unfolding among ascendingFrom
+two = record { first = refl; second = refl; once = λ p h. once p h }
+  where
+    once : (p : ℕ) → p < 2 → among p (0 ∷ []) ≡ other (among p (1 ∷ []))
+    once zero h = refl
+    once (suc zero) h = refl
+    once (suc (suc p)) h = absurd (omega arith)
+
 pub sample-cut : Cut
 unfolding sample second among le number bytes outside rowOf widthOf marked kind widened shown integer trueLength keyed described present numbers shownNumbers vector vectors judged highest codeMost sound field posWrong peopleWrong qualWrong blocks fixed times alleleBytes allele filters filtered filter info site roleOf gtNow formats siteOf genotypesOf reading paired passing past toField fieldIn fieldOf found fetched slots alleleOf alleles people called without howMany counters tally peopleOf counted callsOf tallied ascendingFrom chosenParts chosenFields chosenBlock chosenSite chosenRecord choosing
 sample-cut =
@@ -31,6 +44,7 @@ sample-cut =
       bytes = refl;
       gt = refl;
       tally = refl;
+      divided = two;
       everybody = refl;
       nobody = refl;
       chosen = refl;

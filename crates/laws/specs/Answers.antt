@@ -5,6 +5,7 @@ use Prim.Native.Nat.{ℕ, _/_, _%_, _<_}
 use mathlib.Core.Path.{_≡_}
 use mathlib.Core.List.{List, _++_}
 use lib.ListN.{length}
+use Rattle.build.specs.Turns.{freshState}
 use Rattle.build.specs.declared.Builder.{Builder}
 use Rattle.told.specs.Told.{answer}
 use Rattle.kept.specs.Kept.{stateNumbers, stateOf}
@@ -25,5 +26,6 @@ pub record Answers : Type 1 where
   -- an answer in one number tells its number, and its place or length where that is below 2^32
   pub number : (n low : ℕ) → answer n low / 4294967296 ≡ n
   pub low : (n low : ℕ) → low < 4294967296 → answer n low % 4294967296 ≡ low
-  -- the numbers of a state hold that state, whatever stands behind them
+  -- the numbers of a state hold that state, whatever stands behind them; a fresh one is in its ranges
+  pub fresh : Ranges freshState
   pub state : (st : Builder) (rest : List ℕ) → Ranges st → stateOf (stateNumbers st ++ rest) ≡ st

@@ -11,6 +11,7 @@ use Rattle.choose.specs.Chosen.{chosenRecord}
 use Rattle.choose.specs.Choose.{choosing}
 use Rattle.choose.specs.declared.Choosing.the-variants.{Chosen, Refused}
 use Rattle.chosen.specs.Releases.{forPeople, releasedSite}
+use Rattle.chosen.specs.Divisions.{Division}
 use Rattle.laws.specs.Sample.{facts, sample, sampleSite}
 use lib.ListN.{replicate}
 
@@ -28,7 +29,8 @@ pub record Cut : Type 0 where
   -- no call of allele 0 and one of allele 1
   pub tally : tallied (forPeople 1 facts) second
       ≡ record { answer = Counted (releasedSite (1 ∷ []) sample sampleSite); calls = record { without = 0; counts = 0 ∷ 0 ∷ 1 ∷ replicate 62 0 } }
-  -- everybody: the same bytes; nobody: l_indiv 0, no FORMAT field, no people
+  -- the two people are a division; everybody: the same bytes; nobody: l_indiv 0, no FORMAT field, no people
+  pub divided : Division 2 (0 ∷ []) (1 ∷ [])
   pub everybody : chosenRecord sampleSite (0 ∷ 1 ∷ []) sample ≡ sample
   pub nobody : chosenRecord sampleSite [] sample
       ≡ 0x23 ∷ 0 ∷ 0 ∷ 0 ∷ 0 ∷ 0 ∷ 0 ∷ 0 ∷ 0 ∷ 0 ∷ 0 ∷ 0 ∷ 0x21 ∷ 0x38 ∷ 0 ∷ 0 ∷ 0x01 ∷ 0 ∷ 0 ∷ 0 ∷ 0x01 ∷ 0 ∷ 0x02 ∷ 0 ∷ 0 ∷ 0 ∷ 0 ∷ 0 ∷ 0 ∷ 0 ∷

@@ -1,15 +1,16 @@
 -- Where bytes have room, and where they have not: what `fits` and `filled` then are. Rests on specs/Stores.
 use mathlib.Core.Path.{_≡_, refl, _∙_, sym}
-use mathlib.Core.List.{List, _∷_}
+use mathlib.Core.List.{List, _∷_, _++_}
 use mathlib.Core.Bool.{Bool, true, false}
 use Prim.Native.Nat.{ℕ, _+_, _<_, _≤_}
 use native.Mathlib.Omega.{arith}
 use native.Mathlib.Numerals.{add-one}
 use lib.Dec.{ltb}
-use lib.ListN.{length, set, length-set}
-use lib.Seq.{sets}
+use lib.ListN.{length, set, length-set, length-append}
+use lib.Seq.{sets, length-sets}
 use borrow.Author.Tests.{lt-ltb, le-ltb, ltb-true, ltb-false}
 use Rattle.words.specs.Pick.{pick}
+use Rattle.words.proofs.Stores.{sets-append}
 use Rattle.stores.specs.Stores.{fits, filled}
 
 pub fits-short : (room at n : ℕ) → room < at + n → fits room at n ≡ false
@@ -55,3 +56,13 @@ pub filled-on : (buf : List ℕ) (at b : ℕ) (bs : List ℕ) → at + (1 + leng
 filled-on buf at b bs h =
     let e : sets (set buf at b) (at + 1) bs ≡ sets buf at (b ∷ bs) = rw (add-one at) in
     filled-room (set buf at b) (at + 1) bs (rw length-set (omega arith)) ∙ e ∙ sym (filled-room buf at (b ∷ bs) (omega arith))
+
+-- one list stored, and another right behind it
+pub filled-append : (buf : List ℕ) (at n : ℕ) (xs ys : List ℕ) → length xs ≡ n → at + length (xs ++ ys) ≤ length buf
+    → filled (filled buf at xs) (at + n) ys ≡ sets buf at (xs ++ ys)
+filled-append buf at n xs ys e h =
+    let both = length-append xs ys in
+    let one : filled buf at xs ≡ sets buf at xs = filled-room buf at xs (omega arith) in
+    let two : filled (sets buf at xs) (at + n) ys ≡ sets (sets buf at xs) (at + n) ys =
+    filled-room (sets buf at xs) (at + n) ys (rw length-sets (omega arith)) in
+    rw (one, two, ← e) (sym (sets-append xs ys buf at))

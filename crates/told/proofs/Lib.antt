@@ -1,1 +1,1 @@
-pub mod Room
+mod Room

@@ -88,7 +88,7 @@ tallyNumbers t k = t .alleles ∷ t .people ∷ k .without ∷ k .counts
 
 abbrev pub countingAnswer : ℕ → Calls → Counting → ℕ
 countingAnswer room k (Uncounted r) = refusedAnswer r
-countingAnswer room k (Counted t) = pick (ltb room 68) (answer 13 0) (answer 0 (t .length))
+countingAnswer room k (Counted t) = toldAnswer room (tallyNumbers t k) (t .length)
 
 abbrev pub countingNumbers : List ℕ → Calls → Counting → List ℕ
 countingNumbers out k (Uncounted r) = out

@@ -1,12 +1,11 @@
 -- `kept::put_state` meets its contract: ten numbers, and the keys right behind them.
-use mathlib.Core.Path.{_≡_, _∙_, sym, ap}
-use mathlib.Core.List.{List, [], _∷_}
-use Prim.Native.Nat.{ℕ}
+use mathlib.Core.Path.{_≡_, _∙_, sym, refl, ap}
+use mathlib.Core.List.{List, [], _∷_, _++_}
+use Prim.Native.Nat.{ℕ, _+_, _≤_}
 use native.Mathlib.Omega.{arith}
 use lib.ListN.{length, length-map}
 use Rattle.stores.specs.Stores.{filled}
-use Rattle.stores.proofs.Room.{filled-short}
-use Rattle.told.proofs.Room.{filled-both}
+use Rattle.stores.proofs.Room.{filled-short, filled-room, filled-append}
 use Rattle.build.specs.Order.{rank}
 use borrow.Author.Needs.{needs}
 use Rattle.kept.proofs.put_state.Statement.{statement}
@@ -72,7 +71,9 @@ returns-2 c =
     let k : length (st .keys) ≡ 256 = rw length-map at (c .before .before .before .before .before .before .before .before .before .before .before .before .before .before .before .before .before .good .1 .0 .1 .1 .1 .1 .1 .1 .1 .1 .1 .0 .1 .0 .1) in
     let f = st .facts in
     let ten : ℕ → List ℕ = λ r. f .strings ∷ f .contigs ∷ f .people ∷ f .gt ∷ st .at ∷ st .border ∷ st .alleles ∷ st .infos ∷ st .formats ∷ r ∷ [] in
-    let both = filled-both (a .numbers .now) (ten (rank (st .stage))) (st .keys) (omega (arith, k, c .before .before .before .before .before .before .before .before .before .before .before .before .before .before .before .if1 .left)) in
+    let first = ten (rank (st .stage)) in
+    let h : 0 + length (first ++ st .keys) ≤ length (a .numbers .now) = omega (arith, k, c .before .before .before .before .before .before .before .before .before .before .before .before .before .before .before .if1 .left) in
+    let both = filled-append (a .numbers .now) 0 10 first (st .keys) refl h ∙ sym (filled-room (a .numbers .now) 0 (first ++ st .keys) h) in
     c .before .before .put-numbers2 .ensures ∙ ap (λ (o : List ℕ). filled o 10 (st .keys)) (c .before .before .before .before .before .before .before .put-numbers .ensures ∙ ap (λ (r : ℕ). filled (a .numbers .now) 0 (ten r)) (c .before .before .before .before .before .before .before .before .before .before .rank-of .ensures)) ∙ both
 
 pub put-state-spec : {M : Type 1} → statement M

@@ -1,14 +1,13 @@
 -- `told::tell_calls` meets its contract.
-use mathlib.Core.Path.{_∙_, sym, ap}
-use mathlib.Core.List.{List, [], _∷_}
+use mathlib.Core.Path.{_≡_, _∙_, sym, refl, ap}
+use mathlib.Core.List.{List, [], _∷_, _++_}
 use native.Mathlib.Omega.{arith}
-use mathlib.Core.Path.{_≡_}
-use Prim.Native.Nat.{ℕ}
-use borrow.Author.Tests.{lt-ltb, le-ltb}
+use Prim.Native.Nat.{ℕ, _+_, _<_, _≤_}
 use lib.ListN.{length, length-map}
-use Rattle.stores.proofs.Room.{filled-short}
 use Rattle.stores.specs.Stores.{filled}
-use Rattle.told.proofs.Room.{filled-both}
+use Rattle.stores.proofs.Room.{filled-short, filled-room, filled-append}
+use Rattle.told.specs.Told.{tallyNumbers}
+use Rattle.told.proofs.Room.{told-short, told-room}
 use borrow.Author.Needs.{needs}
 use Rattle.told.proofs.tell_calls.Statement.{statement}
 use Rattle.told.proofs.tell_calls.Tie as tie
@@ -26,7 +25,9 @@ returns : tie.Need-returns
 returns c =
     let q = c .before .if1 .taken in
     let k : length (c .before .before .before .args .calls .counts) ≡ 65 = rw length-map at (c .before .before .before .good .1 .0 .1 .1 .1 .0 .1 .0 .1) in
-    (rw (lt-ltb _ _ q) (c .answer-of .ensures), sym (filled-short _ 0 _ (omega (arith, k))))
+    let a = c .before .before .before .args in
+    let h : length (a .out .now) < length (tallyNumbers (a .site) (a .calls)) = omega (arith, q, k) in
+    (c .answer-of .ensures ∙ sym (told-short _ _ _ h), sym (filled-short _ 0 _ (omega (arith, h))))
 
 -- src/lib.rt:181:18
 cast-t8 : tie.Need-cast-t8
@@ -67,8 +68,9 @@ returns-2 c =
     let a = c .before .before .before .before .before .before .before .before .before .before .before .before .before .before .before .before .args in
     let k : length (a .calls .counts) ≡ 65 = rw length-map at (c .before .before .before .before .before .before .before .before .before .before .before .before .before .before .before .before .good .1 .0 .1 .1 .1 .0 .1 .0 .1) in
     let first : List ℕ = a .site .alleles ∷ a .site .people ∷ a .calls .without ∷ [] in
-    let both = filled-both (a .out .now) first (a .calls .counts) (omega (arith, q, k)) in (
-      rw (le-ltb _ _ q) (c .answer-of2 .ensures),
+    let h : 0 + length (first ++ a .calls .counts) ≤ length (a .out .now) = omega (arith, q, k) in
+    let both = filled-append (a .out .now) 0 3 first (a .calls .counts) refl h ∙ sym (filled-room (a .out .now) 0 (first ++ a .calls .counts) h) in (
+      c .answer-of2 .ensures ∙ sym (told-room _ (tallyNumbers (a .site) (a .calls)) _ (omega (arith, h))),
       c .before .before .before .put-numbers2 .ensures ∙ ap (λ (o : List ℕ). filled o 3 (a .calls .counts)) (c .before .before .before .before .before .before .before .before .put-numbers .ensures) ∙ both,
     )
 
