@@ -266,7 +266,7 @@ uint64_t sikalumdo_format_text(uint32_t *state, size_t state_len, uint8_t *buf, 
 
 /*
  * Ends the record; no turn is taken after it.
- * Answers the record's length in bytes. Refusals: 12; 13 where `buf` is shorter than 28 bytes.
+ * Answers the record's length in bytes. Refusals: 12; 13 where `buf` is shorter than 32 bytes.
  * Writes the four fields that begin left 0, and nothing else.
  */
 uint64_t sikalumdo_end(uint32_t *state, size_t state_len, uint8_t *buf, size_t buf_len);

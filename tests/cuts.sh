@@ -26,7 +26,7 @@ facts=00000004000000010000200000000003 # 8192 people, so that a choice is not ou
 record=$(sed -n 2p samples/two-people.hex)
 most=$(printf '%08X' $(seq 0 7499))
 long=$(printf '%060002d' 0)
-expect 'a choice of 60,000 digits' <(printf '%s\n' 000000040000000100001D4C00000003 'no 5 24') \
+expect 'a choice of 60,000 digits' <(printf '%s\n' 000000040000000100001D4C00000003 'no 5 28') \
   < <(printf '%s\n' "$facts" "$most" "$record" | tools/run bcfcut)
 expect 'a choice of 60,008 digits' <(echo bad) < <(printf '%s\n' "$facts" "${most}00001D4C" "$record" | tools/run bcfcut)
 expect 'a choice that does not end' <(echo bad) < <(printf '%s\n' "$facts" "$most$most$most" "$record" | tools/run bcfcut)

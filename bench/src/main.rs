@@ -70,7 +70,7 @@ const SAMPLE: usize = 512 << 10;
 /// Has htslib do a task over a file of the same record, and takes its two numbers.
 fn time_htslib(program: &str, folder: &Path, task: &Task) -> Times {
     let file = folder.join("records.bcf");
-    let length = task.record.htslib_bytes().len();
+    let length = task.record.bytes().len();
     std::fs::write(&file, task.record.htslib_file(FILE / length)).expect("a file for htslib");
     let records = (SAMPLE / length).to_string();
     let output = Command::new(program).arg(task.htslib).arg(&file).arg(records).output().expect("htslib's program");

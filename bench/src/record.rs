@@ -1,4 +1,4 @@
-//! The records that are timed: made from a seed, laid out as this library's records and as files that htslib reads.
+//! The records that are timed: made from a seed, and laid out in files for the line programs and for htslib.
 
 use sikalumdo::Facts;
 
@@ -72,23 +72,11 @@ impl Record {
         Record { facts: Facts { strings: 5, contigs: 1, people, gt: GENOTYPE }, formats }
     }
 
-    /// The bytes as this library reads them, QUAL after the counts.
+    /// The bytes, which this library and htslib read alike.
     pub fn bytes(&self) -> Vec<u8> {
-        let [in_site, in_genotypes] = self.counts();
-        self.laid([0, POS as u32, 1, in_site, in_genotypes, QUAL])
-    }
-
-    /// The bytes as htslib reads them, QUAL before the counts.
-    pub fn htslib_bytes(&self) -> Vec<u8> {
-        let [in_site, in_genotypes] = self.counts();
-        self.laid([0, POS as u32, 1, QUAL, in_site, in_genotypes])
-    }
-
-    fn counts(&self) -> [u32; 2] {
-        [(ALLELES.len() as u32) << 16 | 1, (self.formats.len() as u32) << 24 | self.facts.people]
-    }
-
-    fn laid(&self, words: [u32; 6]) -> Vec<u8> {
+        let in_site = (ALLELES.len() as u32) << 16 | 1;
+        let in_genotypes = (self.formats.len() as u32) << 24 | self.facts.people;
+        let words = [0, POS as u32, 1, QUAL, in_site, in_genotypes];
         let mut site: Vec<u8> = words.iter().flat_map(|word| word.to_le_bytes()).collect();
         site.push(0x07);
         ALLELES.iter().for_each(|text| site.extend([[0x17].as_slice(), text].concat()));
@@ -119,7 +107,7 @@ impl Record {
         let mut file = b"BCF\x02\x02".to_vec();
         file.extend((header.len() as u32).to_le_bytes());
         file.extend(header.as_bytes());
-        file.extend(self.htslib_bytes().repeat(copies));
+        file.extend(self.bytes().repeat(copies));
         file
     }
 

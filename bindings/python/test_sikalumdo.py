@@ -15,6 +15,8 @@ from sikalumdo import ALLELE, FILTER, FORMAT, ID, INFO, Builder, Facts, Refusal
 
 ROOT = pathlib.Path(__file__).resolve().parents[2]
 FACTS = Facts(strings=4, contigs=1, people=2, gt=3)
+# The places of the allele and INFO counts, and of the FORMAT and people counts.
+SITE_COUNTS, GENOTYPE_COUNTS = 24, 28
 
 
 def sample(name):
@@ -71,9 +73,10 @@ class Reading(Case):
             self.assertRaises(TypeError, sikalumdo.read, record, FACTS)
 
     def test_refusals(self):
-        for place, value, number, where in ((8, 1, 5, 8), (32, 1, 6, 32), (33, 7, 7, 33), (34, 0x20, 9, 34), (38, 4, 8, 38),
-                                            (40, 0x80, 8, 40), (42, 0x82, 9, 42), (45, 0x11, 4, 48), (46, 0xFF, 10, 46),
-                                            (0, 23, 3, 31), (7, 1, 2, 0)):
+        for place, value, number, where in ((8, 1, 5, 8), (SITE_COUNTS + 2, 0, 5, SITE_COUNTS),
+                                            (GENOTYPE_COUNTS, 3, 5, GENOTYPE_COUNTS), (32, 1, 6, 32), (33, 7, 7, 33),
+                                            (34, 0x20, 9, 34), (38, 4, 8, 38), (40, 0x80, 8, 40), (42, 0x82, 9, 42),
+                                            (45, 0x11, 4, 48), (46, 0xFF, 10, 46), (0, 23, 3, 31), (7, 1, 2, 0)):
             self.assertRefused(number, where, sikalumdo.read, edited(place, value), FACTS)
         self.assertRefused(1, 0, sikalumdo.read, b"", FACTS)
         self.assertRefused(1, 0, sikalumdo.read, RECORD[:-1], FACTS)
@@ -179,12 +182,14 @@ def printed(record, facts):
 class Choosing(Case):
     def test_second_person(self):
         chosen = sikalumdo.choose(RECORD, FACTS, [1])
-        self.assertEqual(chosen, RECORD[:4] + b"\5" + RECORD[5:24] + b"\1" + RECORD[25:46] + b"\x04\x81")
+        one_person = b"\1" + RECORD[GENOTYPE_COUNTS + 1:46]
+        self.assertEqual(chosen, RECORD[:4] + b"\5" + RECORD[5:GENOTYPE_COUNTS] + one_person + b"\x04\x81")
         self.assertEqual(sikalumdo.tally(chosen, FACTS._replace(people=1)).calls, (0, 1))
 
     def test_everybody_and_nobody(self):
         self.assertEqual(sikalumdo.choose(RECORD + b"next", FACTS, (0, 1)), RECORD)
-        self.assertEqual(sikalumdo.choose(RECORD, FACTS, []), RECORD[:4] + b"\0" + RECORD[5:24] + b"\0\0\0\0" + RECORD[28:43])
+        no_people = b"\0\0\0\0" + RECORD[GENOTYPE_COUNTS + 4:43]
+        self.assertEqual(sikalumdo.choose(RECORD, FACTS, []), RECORD[:4] + b"\0" + RECORD[5:GENOTYPE_COUNTS] + no_people)
 
     def test_refusals(self):
         for choice in ([1, 0], [0, 0], [2]):

@@ -10,6 +10,9 @@
 
 enum { RECORD = 50, ROOM = 200 };
 
+/* The places of the allele and INFO counts, and of the FORMAT and people counts. */
+enum { SITE_COUNTS = 24, GENOTYPE_COUNTS = 28 };
+
 static const uint32_t STRINGS = 4, CONTIGS = 1, PEOPLE = 2, GT = 3;
 
 /* The sample's record, in memory of just its size, so that valgrind sees a byte read past it. */
@@ -163,12 +166,12 @@ static void test_choosing(void)
     CHECK(untouched(buf, sizeof buf));
     CHECK(is(choose_into(second, 1, buf, 48), 0, 48));
     CHECK(untouched(buf + 48, ROOM - 48));
-    CHECK(buf[4] == 5 && buf[24] == 1 && buf[27] == 1);
+    CHECK(buf[4] == 5 && buf[GENOTYPE_COUNTS] == 1 && buf[GENOTYPE_COUNTS + 3] == 1);
     CHECK(memcmp(buf + 43, "\x11\x03\x21\x04\x81", 5) == 0);
     CHECK(is(sikalumdo_tally(buf, 48, STRINGS, CONTIGS, 1, GT, counts, SIKALUMDO_TALLY_NUMBERS), 0, 48));
     CHECK(counts[SIKALUMDO_TALLY_CALLS] == 0 && counts[SIKALUMDO_TALLY_CALLS + 1] == 1);
     CHECK(is(choose_into(second, 0, buf, 43), 0, 43));
-    CHECK(buf[4] == 0 && memcmp(buf + 24, "\0\0\0\0", 4) == 0);
+    CHECK(buf[4] == 0 && memcmp(buf + GENOTYPE_COUNTS, "\0\0\0\0", 4) == 0);
 }
 
 static uint32_t state[SIKALUMDO_STATE_NUMBERS];
@@ -258,10 +261,11 @@ static void test_refusals_of_reading(void)
     /* byte, what it becomes, number, place */
     static const uint32_t edits[][4] = {
         {7, 0x01, 2, 0},     {4, 0x08, 1, 0},     {0, 0x17, 3, 31},    {8, 0x01, 5, 8},     {15, 0x80, 5, 12},
-        {19, 0x80, 5, 16},   {22, 0x00, 5, 20},   {24, 0x03, 5, 24},   {32, 0x01, 6, 32},   {33, 0x07, 7, 33},
-        {34, 0x20, 9, 34},   {38, 0x04, 8, 38},   {38, 0x81, 8, 38},   {39, 0x14, 6, 39},   {40, 0x04, 8, 40},
-        {41, 0xF1, 6, 42},   {41, 0x21, 3, 43},   {42, 0x82, 9, 42},   {44, 0x04, 8, 44},   {45, 0x27, 6, 45},
-        {45, 0x31, 3, 50},   {45, 0x11, 4, 48},   {46, 0x06, 10, 46},  {46, 0xFF, 10, 46},  {46, 0x81, 9, 47}};
+        {19, 0x80, 5, 16},   {SITE_COUNTS + 2, 0x00, 5, SITE_COUNTS},  {GENOTYPE_COUNTS, 0x03, 5, GENOTYPE_COUNTS},
+        {32, 0x01, 6, 32},   {33, 0x07, 7, 33},   {34, 0x20, 9, 34},   {38, 0x04, 8, 38},   {38, 0x81, 8, 38},
+        {39, 0x14, 6, 39},   {40, 0x04, 8, 40},   {41, 0xF1, 6, 42},   {41, 0x21, 3, 43},   {42, 0x82, 9, 42},
+        {44, 0x04, 8, 44},   {45, 0x27, 6, 45},   {45, 0x31, 3, 50},   {45, 0x11, 4, 48},   {46, 0x06, 10, 46},
+        {46, 0xFF, 10, 46},  {46, 0x81, 9, 47}};
     uint64_t out[SIKALUMDO_TALLY_NUMBERS];
     size_t i;
     memset(out, 0xA5, sizeof out);
@@ -321,13 +325,13 @@ static void test_refused_turns(void)
     CHECK(is(format(3, 2, minus, 4), 10, 0));
     CHECK(is(format(2, 2, minus, 4), 9, 0));
     CHECK(is(sikalumdo_format_text(state, SIKALUMDO_STATE_NUMBERS, buf, 0, 3, 1, record, 1), 6, 0));
-    CHECK(is(end(27), 13, 0));
+    CHECK(is(end(GENOTYPE_COUNTS + 3), 13, 0));
     CHECK(memcmp(before, state, sizeof state) == 0);
     CHECK(memcmp(bytes, buf, sizeof buf) == 0);
     CHECK(is(format(2, 2, few, 4), 0, 46));
     CHECK(is(format(2, 2, few, 4), 11, 0));
     CHECK(is(info(1, few, 1), 12, 0));
-    CHECK(is(end(28), 0, 46));
+    CHECK(is(end(GENOTYPE_COUNTS + 4), 0, 46));
 }
 
 static void test_refused_beginnings(void)

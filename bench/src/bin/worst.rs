@@ -7,10 +7,11 @@ use sikalumdo::{read, Builder, Facts, Site};
 const MOST: usize = 16_777_216;
 const FACTS: Facts = Facts { strings: 1 << 31, contigs: 1, people: 0, gt: 1 };
 
-/// A record from its blocks: lengths, fixed fields and counts as 01 lays them out, then the bytes of ID, alleles, FILTER and INFO, then FORMAT.
+/// A record from its blocks: lengths, fixed fields and counts, then the bytes of ID, alleles, FILTER and INFO, then FORMAT.
 fn record(alleles: u32, infos: u32, formats: u32, people: u32, site: &[u8], genotypes: &[u8]) -> Vec<u8> {
-    let words = [24 + site.len() as u32, genotypes.len() as u32, 0, 0, 1, alleles << 16 | infos, formats << 24 | people, 0x7F80_0001];
-    let head = words.iter().flat_map(|word| word.to_le_bytes());
+    let lengths = [24 + site.len() as u32, genotypes.len() as u32];
+    let fields = [0, 0, 1, 0x7F80_0001, alleles << 16 | infos, formats << 24 | people];
+    let head = lengths.iter().chain(&fields).flat_map(|word| word.to_le_bytes());
     head.chain(site.iter().copied()).chain(genotypes.iter().copied()).collect()
 }
 

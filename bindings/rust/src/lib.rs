@@ -7,7 +7,7 @@
 //!
 //! ```
 //! let facts = sikalumdo::Facts { strings: 4, contigs: 1, people: 2, gt: 3 };
-//! # let digits = "230000000700000000000000213800000100000001000200020000010000E841071747174111001102110E11032102030481";
+//! # let digits = "23000000070000000000000021380000010000000000E8410100020002000001071747174111001102110E11032102030481";
 //! # let byte = |at| u8::from_str_radix(&digits[at..at + 2], 16).unwrap();
 //! # let record: Vec<u8> = (0..digits.len()).step_by(2).map(byte).collect();
 //! let tally = sikalumdo::tally(&record, &facts)?;

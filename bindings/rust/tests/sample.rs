@@ -3,6 +3,8 @@
 use sikalumdo::{choose, fetch, pair_at, pairs, read, shown, tally, Builder, Facts, Kind, Refusal};
 
 const PATTERN: u8 = 0xA5;
+/// The place of the FORMAT and people counts, the last field that end fills in.
+const GENOTYPE_COUNTS: usize = 28;
 
 /// The facts and the one record of the sample file.
 fn sample() -> (Facts, Vec<u8>) {
@@ -97,7 +99,7 @@ fn people_are_chosen() {
     let mut buf = [PATTERN; 60];
     assert_eq!(choose(&record, &facts, &[1], &mut buf), Ok(48));
     let mut wanted = record.clone();
-    (wanted[4], wanted[24]) = (5, 1);
+    (wanted[4], wanted[GENOTYPE_COUNTS]) = (5, 1);
     wanted.drain(46..48);
     assert_eq!((&buf[..48], &buf[48..]), (&wanted[..], &[PATTERN; 12][..]));
     assert_eq!(choose(&record, &facts, &[], &mut buf), Ok(43));
@@ -138,7 +140,7 @@ fn a_refused_turn_keeps_state_and_buffer() {
         buf.fill(PATTERN);
         let (builder, written) = build(&mut buf, turns).expect("the turns before");
         let (mut again, before) = (builder.clone(), buf);
-        let room = if turns == 7 { 27 } else { written as usize };
+        let room = if turns == 7 { GENOTYPE_COUNTS + 3 } else { written as usize };
         assert_eq!(take(&mut again, &mut buf[..room], &facts, turns), Err(Refusal { number: 13, place: 0 }));
         assert_eq!((&again, buf), (&builder, before));
         assert!(take(&mut again, &mut buf, &facts, turns).is_ok());

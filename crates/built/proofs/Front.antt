@@ -53,9 +53,9 @@ record Fields (people : ℕ) (r : Shown) (s : List ℕ) : Type 0 where
   chrom : field chromAt s ≡ r .chrom
   pos : field posAt s ≡ r .pos
   rlen : field rlenAt s ≡ r .rlen
+  qual : field qualAt s ≡ r .qual
   counts : field countsAt s ≡ length (r .alleles) * 65536 + length (r .infos)
   members : field peopleAt s ≡ length (r .formats) * 16777216 + people
-  qual : field qualAt s ≡ r .qual
 
 fields-front : (people : ℕ) (r : Shown) (m : List ℕ) → (r .chrom < 4294967296) × (r .pos < 4294967296) × (r .rlen < 4294967296) × (r .qual < 4294967296)
     → idAt - 8 + length (siteBytes r) < 4294967296 → length (genotypeBytes r) < 4294967296
@@ -65,14 +65,14 @@ unfolding filledFront frontBytes field bytes
 fields-front people r m b h i c p =
     let s = filledFront people r ++ m in
     record {
-      site = number-bytes 4 (idAt - 8 + length (siteBytes r)) (drop indivAt s) h;
-      indiv = number-bytes 4 (length (genotypeBytes r)) (drop chromAt s) i;
-      chrom = number-bytes 4 (r .chrom) (drop posAt s) (b .0);
-      pos = number-bytes 4 (r .pos) (drop rlenAt s) (b .1);
-      rlen = number-bytes 4 (r .rlen) (drop countsAt s) (b .2);
-      counts = number-bytes 4 (length (r .alleles) * 65536 + length (r .infos)) (drop peopleAt s) c;
-      members = number-bytes 4 (length (r .formats) * 16777216 + people) (drop qualAt s) p;
-      qual = number-bytes 4 (r .qual) (drop idAt s) (b .3);
+      site = number-bytes 4 (idAt - 8 + length (siteBytes r)) (drop 4 s) h;
+      indiv = number-bytes 4 (length (genotypeBytes r)) (drop (indivAt + 4) s) i;
+      chrom = number-bytes 4 (r .chrom) (drop (chromAt + 4) s) (b .0);
+      pos = number-bytes 4 (r .pos) (drop (posAt + 4) s) (b .1);
+      rlen = number-bytes 4 (r .rlen) (drop (rlenAt + 4) s) (b .2);
+      qual = number-bytes 4 (r .qual) (drop (qualAt + 4) s) (b .3);
+      counts = number-bytes 4 (length (r .alleles) * 65536 + length (r .infos)) (drop (countsAt + 4) s) c;
+      members = number-bytes 4 (length (r .formats) * 16777216 + people) (drop (peopleAt + 4) s) p;
     }
 
 -- the rules of the fixed fields: none gives 5

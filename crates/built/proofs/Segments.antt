@@ -7,7 +7,7 @@ use native.Mathlib.Nat.{add-zero}
 use lib.ListN.{length, length-append}
 use lib.Seq.{sets, length-sets, append-snoc}
 use borrow.Author.Tests.{le-ltb}
-use Rattle.fixed.specs.Layout.{peopleAt, idAt}
+use Rattle.fixed.specs.Layout.{idAt, filledTo}
 use Rattle.fixed.specs.declared.Facts.{Facts}
 use Rattle.record.specs.Shown.{text, Pair, Field}
 use Rattle.rules.specs.Rules.{reachNumber, wrongBegin, wrongEnd}
@@ -182,5 +182,5 @@ unfolding endNumber wrongEnd reachNumber
 end-run {f} {start} {s} {border} {whole} {a} {i} {keys} o room =
     let n = length-sets start 0 whole in
     record {
-      run = run-next (first-right _ _ (order-right 4 6 s o) (rw (le-ltb (length (sets start 0 whole)) (peopleAt + 4) (omega arith)))) done;
+      run = run-next (first-right _ _ (order-right 4 6 s o) (rw (le-ltb (length (sets start 0 whole)) filledTo (omega arith)))) done;
     }

@@ -16,13 +16,13 @@ use Rattle.genotypes.specs.declared.Gt.{Gt}
 use Rattle.genotypes.specs.declared.Genotypes.the-variants.{Sound}
 use Rattle.record.specs.Reading.{reading, siteOf, genotypesOf}
 use Rattle.record.specs.declared.Reading.the-variants.{Accepted}
+use Rattle.record.proofs.Accepted.{accepted, accepted-fits}
 use Rattle.fetched.proofs.Bytes.{part-of}
-use Rattle.fetched.proofs.There.{accepted}
 use Rattle.people.specs.Choice.{ascending}
 use Rattle.choose.specs.Chosen.{chosenFields, keptFormats, chosenBlock, chosenRecord}
 use Rattle.people.proofs.Choice.{length-ascending}
 use Rattle.people.proofs.Sizes.{size-inside}
-use Rattle.fixed.proofs.Fits.{Fits, fixed-fits, fits-fixed}
+use Rattle.fixed.proofs.Fits.{Fits, fits-fixed}
 use Rattle.choose.proofs.Written.{length-chosenRecord, size-block}
 use Rattle.chosen.specs.Releases.{forPeople, releasedSite}
 use Rattle.chosen.proofs.Blocks.{SameGt, no-gt, formats-none, formats-chosenFields}
@@ -103,7 +103,7 @@ pub release : (f : Facts) (s : List ℕ) (t : Site) (g : Gt) (cs : List ℕ) →
 unfolding reading
 release f s t g cs bytes h c =
     let a = accepted f s t g h in
-    let x = fixed-fits f s t (a .front) in
+    let x = accepted-fits f s t g h in
     let p = people-given (f .people) (t .formats) (t .people) (x .peopleRight) in
     let y = own-genotypes f s t g (p .0) (a .genotypes) in
     let n = length-chosenBlock s t cs c in

@@ -15,11 +15,10 @@ use Rattle.genotypes.specs.declared.Gt.{Gt}
 use Rattle.genotypes.specs.declared.Genotypes.the-variants.{Sound}
 use Rattle.record.specs.Reading.{reading, genotypesOf}
 use Rattle.record.specs.declared.Reading.the-variants.{Accepted}
+use Rattle.record.proofs.Accepted.{accepted, accepted-fits}
 use Rattle.fetch.specs.Fetch.{paired}
 use Rattle.fetch.specs.declared.Found.the-variants.{Field}
 use Rattle.fetched.proofs.FormatFields.{formats-field}
-use Rattle.fetched.proofs.There.{accepted}
-use Rattle.fixed.proofs.Fits.{fixed-fits}
 use Rattle.chosen.proofs.Sites.{people-given}
 
 -- a FORMAT field at the front of a list that is there, and what holds of the rest
@@ -78,7 +77,7 @@ pub record Opened (f : Facts) (s : List ℕ) (t : Site) : Type 0 where
 
 pub opened : (f : Facts) (s : List ℕ) (t : Site) (g : Gt) → reading f s ≡ Accepted t g → Opened f s t
 opened f s t g h =
-    let x = fixed-fits f s t (accepted f s t g h .front) in
+    let x = accepted-fits f s t g h in
     let a = x .border in
     let b = x .whole in
     let c = x .formats in

@@ -1,5 +1,5 @@
 -- Of an accepted record, each field below its kind's count stands where reading judged it. Rests on proofs/Agree, proofs/FormatFields
--- and reading's definition.
+-- and on what reading went through.
 use mathlib.Core.Path.{_≡_, refl}
 use mathlib.Core.List.{List, [], _∷_}
 use Prim.Native.Nat.{ℕ, zero, suc, _-_, _<_, _≤_}
@@ -10,24 +10,20 @@ use borrow.Author.Tests.{lt-leb}
 use Rattle.words.specs.Pick.{pick}
 use Rattle.types.specs.declared.Use.the-variants.{Id as IdUse}
 use Rattle.fixed.specs.Layout.{idAt}
-use Rattle.fixed.specs.Fixed.{fixed}
 use Rattle.fixed.specs.declared.Facts.{Facts}
 use Rattle.fixed.specs.declared.Site.{Site}
-use Rattle.fixed.specs.declared.Fixed.{Fixed}
-use Rattle.fixed.specs.declared.Fixed.the-variants.{Site as Front, Refused as NoSite}
 use Rattle.genotypes.specs.Formats.{noGt}
 use Rattle.genotypes.specs.declared.Gt.{Gt}
-use Rattle.genotypes.specs.declared.Genotypes.{Genotypes}
-use Rattle.genotypes.specs.declared.Genotypes.the-variants.{Sound, Refused as NoGenotypes}
 use Rattle.vectors.specs.Sound.{sound}
 use Rattle.site.specs.Steps.{ended, times, valueStep}
 use Rattle.site.specs.Alleles.{allele}
 use Rattle.site.specs.Filters.{filter}
 use Rattle.site.specs.Site.{info, site}
 use Rattle.site.specs.declared.Step.{Step}
-use Rattle.site.specs.declared.Step.the-variants.{At, Refused as NoStep}
-use Rattle.record.specs.Reading.{reading, siteOf, genotypesOf, afterFixed, afterSite, afterGenotypes}
+use Rattle.site.specs.declared.Step.the-variants.{At}
+use Rattle.record.specs.Reading.{reading, siteOf, genotypesOf}
 use Rattle.record.specs.declared.Reading.the-variants.{Accepted}
+use Rattle.record.proofs.Accepted.{Read}
 use Rattle.fetch.specs.Fetch.{isFormat, fieldAt, passing, past, toFilter, toInfo, toFirst, toField, fieldIn, fieldOf, countOf, found}
 use Rattle.fetch.specs.declared.Kind.{Kind}
 use Rattle.fetch.specs.declared.Kind.the-variants.{Id, Allele, Filter, Info, Format}
@@ -185,31 +181,6 @@ site-walk f t at l {e} h =
 once : (step : ℕ → List ℕ → Step) (at : ℕ) (l : List ℕ) {q : ℕ} → step at l ≡ At q → times step 1 at l ≡ At q
 unfolding times
 once step at l h = rw h
-
--- what an accepted record's reading went through
-pub record Read (f : Facts) (t : Site) (g : Gt) (s : List ℕ) : Type 0 where
-  pub end : ℕ
-  pub front : fixed f s ≡ Front t
-  pub block : siteOf f t s ≡ At end
-  pub genotypes : genotypesOf f t s ≡ Sound g
-
-pub accepted : (f : Facts) (s : List ℕ) (t : Site) (g : Gt) → reading f s ≡ Accepted t g → Read f t g s
-unfolding reading
-accepted f s t g h = by-front (fixed f s) refl h
-  where
-    by-genotypes : (t′ : Site) (x : Genotypes) → afterGenotypes t′ x ≡ Accepted t g → (t′ ≡ t) × (x ≡ Sound g)
-    by-genotypes t′ (NoGenotypes r) e = let z : _≡_ {A = ℕ} 0 1 = cc in absurd (omega arith)
-    by-genotypes t′ (Sound g′) e = (cc, cc)
-
-    by-site : (t′ : Site) (p : Step) → fixed f s ≡ Front t′ → siteOf f t′ s ≡ p → afterSite f t′ s p ≡ Accepted t g → Read f t g s
-    by-site t′ (NoStep r) x b e = let z : _≡_ {A = ℕ} 0 1 = cc in absurd (omega arith)
-    by-site t′ (At q) x b e =
-        let k = by-genotypes t′ (genotypesOf f t′ s) e in
-        record { end = q; front = rw (k .0) at x; block = rw (k .0) at b; genotypes = rw (k .0) at (k .1) }
-
-    by-front : (x : Fixed) → fixed f s ≡ x → afterFixed f s x ≡ Accepted t g → Read f t g s
-    by-front (NoSite r) k e = let z : _≡_ {A = ℕ} 0 1 = cc in absurd (omega arith)
-    by-front (Front t′) k e = by-site t′ (siteOf f t′ s) k refl e
 
 -- where a kind's block begins and ends
 abbrev pub blockFrom : Kind → Site → ℕ

@@ -1,17 +1,17 @@
 -- The front of a record as facts about its fields, both ways. Rests on specs/Fixed and the layout.
-use mathlib.Core.Path.{_≡_, refl, ap}
+use mathlib.Core.Path.{_≡_, refl}
 use mathlib.Core.List.{List}
 use mathlib.Core.Bool.{Bool, true, false}
-use Prim.Native.Nat.{ℕ, _+_, _/_, _%_, _≤_}
+use Prim.Native.Nat.{ℕ, _+_, _/_, _%_, _≤_, _<_}
 use native.Mathlib.Omega.{arith}
-use lib.Dec.{ltb}
+use lib.Dec.{ltb, eqb}
 use lib.ListN.{length}
-use borrow.Author.Tests.{ltb-false, le-ltb}
+use borrow.Author.Tests.{ltb-false, le-ltb, eqb-true}
 use Rattle.words.specs.Pick.{pick}
 use Rattle.words.specs.Words.{outside}
 use Rattle.values.specs.declared.Refusal.{Refusal}
 use Rattle.fixed.specs.Layout.{indivAt, chromAt, posAt, rlenAt, countsAt, peopleAt, qualAt, idAt, mostBytes, field, posWrong, rlenWrong, countsWrong, peopleWrong, qualWrong}
-use Rattle.fixed.specs.Fixed.{blocks, fields, fixed}
+use Rattle.fixed.specs.Fixed.{noSite, blocks, wrongAt, siteAt, fields, fixed}
 use Rattle.fixed.specs.declared.Facts.{Facts}
 use Rattle.fixed.specs.declared.Site.{Site}
 use Rattle.fixed.specs.declared.Blocks.{Blocks}
@@ -37,24 +37,17 @@ pub record Fits (f : Facts) (s : List ℕ) (t : Site) : Type 0 where
   pub chromRight : outside (f .contigs) (t .chrom) ≡ false
   pub posRight : posWrong (t .pos) ≡ false
   pub rlenRight : rlenWrong (t .rlen) ≡ false
+  pub qualRight : qualWrong (t .qual) ≡ false
   pub countsRight : countsWrong (t .alleles) ≡ false
   pub peopleRight : peopleWrong (f .people) (t .formats) (t .people) ≡ false
-  pub qualRight : qualWrong (t .qual) ≡ false
 
 -- a test that is passed
 lent-on : (c : Bool) (r : Refusal) (x : Blocks) {b w : ℕ} → pick c (NoBlocks r) x ≡ Lent b w → (c ≡ false) × (x ≡ Lent b w)
 lent-on true r x h = let z : _≡_ {A = ℕ} 0 1 = cc in absurd (omega arith)
 lent-on false r x h = (refl, h)
 
-front-on : (c : Bool) (r : Refusal) (x : Fixed) {t : Site} → pick c (NoSite r) x ≡ Front t → (c ≡ false) × (x ≡ Front t)
-front-on true r x h = let z : _≡_ {A = ℕ} 0 1 = cc in absurd (omega arith)
-front-on false r x h = (refl, h)
-
 same-lent : (a b c d : ℕ) → Lent a b ≡ Lent c d → (a ≡ c) × (b ≡ d)
 same-lent a b c d h = (cc, cc)
-
-same-front : (t t′ : Site) → Front t ≡ Front t′ → t ≡ t′
-same-front t t′ h = cc
 
 -- two blocks that are lent: where the border stands and the record ends
 record Lends (s : List ℕ) (b w : ℕ) : Type 0 where
@@ -90,72 +83,103 @@ blocks-lends s b w l =
     let y : b + field indivAt s ≡ w = omega arith in
     rw (a, y, le-ltb (length s) 8 (omega arith), le-ltb mostBytes w m, le-ltb (length s) w d, le-ltb b idAt i)
 
+-- no field's place is told where each keeps its rule
+passed : (c : Bool) (p x : ℕ) → 0 < p → pick c p x ≡ 0 → (c ≡ false) × (x ≡ 0)
+passed true p x some h = absurd (omega arith)
+passed false p x some h = (refl, h)
+
+record Right (f : Facts) (s : List ℕ) : Type 0 where
+  chrom : outside (f .contigs) (field chromAt s) ≡ false
+  pos : posWrong (field posAt s) ≡ false
+  rlen : rlenWrong (field rlenAt s) ≡ false
+  qual : qualWrong (field qualAt s) ≡ false
+  counts : countsWrong (field countsAt s / 65536) ≡ false
+  people : peopleWrong (f .people) (field peopleAt s / 16777216) (field peopleAt s % 16777216) ≡ false
+
+none-wrong : (f : Facts) (s : List ℕ) → wrongAt f s ≡ 0 → Right f s
+unfolding wrongAt
+none-wrong f s h =
+    let e1 = passed (outside (f .contigs) (field chromAt s)) chromAt _ (omega arith) h in
+    let e2 = passed (posWrong (field posAt s)) posAt _ (omega arith) (e1 .1) in
+    let e3 = passed (rlenWrong (field rlenAt s)) rlenAt _ (omega arith) (e2 .1) in
+    let e4 = passed (qualWrong (field qualAt s)) qualAt _ (omega arith) (e3 .1) in
+    let e5 = passed (countsWrong (field countsAt s / 65536)) countsAt _ (omega arith) (e4 .1) in
+    let e6 = passed (peopleWrong (f .people) (field peopleAt s / 16777216) (field peopleAt s % 16777216)) peopleAt 0 (omega arith) (e5 .1) in
+    record { chrom = e1 .0; pos = e2 .0; rlen = e3 .0; qual = e4 .0; counts = e5 .0; people = e6 .0 }
+
+wrong-none : (f : Facts) (s : List ℕ) → Right f s → wrongAt f s ≡ 0
+unfolding wrongAt
+wrong-none f s r = rw (r .chrom, r .pos, r .rlen, r .qual, r .counts, r .people)
+
+front-on : (at : ℕ) (x : Site) {t : Site} → pick (eqb at 0) (Front x) (noSite 5 at) ≡ Front t → (at ≡ 0) × (x ≡ t)
+front-on at x {t} h = by-test (eqb at 0) refl h
+  where
+    by-test : (c : Bool) → eqb at 0 ≡ c → pick c (Front x) (noSite 5 at) ≡ Front t → (at ≡ 0) × (x ≡ t)
+    by-test true e k = (eqb-true at 0 e, cc)
+    by-test false e k = let z : _≡_ {A = ℕ} 0 1 = cc in absurd (omega arith)
+
+-- what the site of a front says is what its fields say
 pub fixed-fits : (f : Facts) (s : List ℕ) (t : Site) → fixed f s ≡ Front t → Fits f s t
-unfolding fixed
+unfolding fixed siteAt
 fixed-fits f s t h = by-blocks (blocks s) refl h
   where
     by-blocks : (x : Blocks) → blocks s ≡ x → fields f s x ≡ Front t → Fits f s t
     by-blocks (NoBlocks r) p e = let z : _≡_ {A = ℕ} 0 1 = cc in absurd (omega arith)
     by-blocks (Lent b w) p e =
         let l = lends s b w p in
-        let counts = field countsAt s in
-        let members = field peopleAt s in
-        let e1 = front-on (outside (f .contigs) (field chromAt s)) _ _ e in
-        let e2 = front-on (posWrong (field posAt s)) _ _ (e1 .1) in
-        let e3 = front-on (rlenWrong (field rlenAt s)) _ _ (e2 .1) in
-        let e4 = front-on (countsWrong (counts / 65536)) _ _ (e3 .1) in
-        let e5 = front-on (peopleWrong (f .people) (members / 16777216) (members % 16777216)) _ _ (e4 .1) in
-        let e6 = front-on (qualWrong (field qualAt s)) _ _ (e5 .1) in
-        let k = same-front _ t (e6 .1) in
-        let x1 : field chromAt s ≡ t .chrom = ap (λ (x : Site). x .chrom) k in
-        let x2 : field posAt s ≡ t .pos = ap (λ (x : Site). x .pos) k in
-        let x3 : field rlenAt s ≡ t .rlen = ap (λ (x : Site). x .rlen) k in
-        let x4 : counts / 65536 ≡ t .alleles = ap (λ (x : Site). x .alleles) k in
-        let x5 : members / 16777216 ≡ t .formats = ap (λ (x : Site). x .formats) k in
-        let x6 : members % 16777216 ≡ t .people = ap (λ (x : Site). x .people) k in
-        let x7 : field qualAt s ≡ t .qual = ap (λ (x : Site). x .qual) k in
-        let x8 : b ≡ t .border = ap (λ (x : Site). x .border) k in
-        let x9 : w ≡ t .length = ap (λ (x : Site). x .length) k in
-        record {
-          border = rw x8 at (l .border);
-          whole = rw x9 at (l .whole);
-          there = rw x9 at (l .there);
-          most = rw x9 at (l .most);
-          site = rw x8 at (l .site);
-          chrom = x1;
-          pos = x2;
-          rlen = x3;
-          qual = x7;
-          alleles = x4;
-          infos = ap (λ (x : Site). x .infos) k;
-          formats = x5;
-          people = x6;
-          chromRight = rw x1 at (e1 .0);
-          posRight = rw x2 at (e2 .0);
-          rlenRight = rw x3 at (e3 .0);
-          countsRight = rw x4 at (e4 .0);
-          peopleRight = rw (x5, x6) at (e5 .0);
-          qualRight = rw x7 at (e6 .0);
-        }
+        let k = front-on (wrongAt f s) (siteAt b w s) e in
+        let r = none-wrong f s (k .0) in
+        let fits : Fits f s (siteAt b w s) = record {
+          border = l .border;
+          whole = l .whole;
+          there = l .there;
+          most = l .most;
+          site = l .site;
+          chrom = refl;
+          pos = refl;
+          rlen = refl;
+          qual = refl;
+          alleles = refl;
+          infos = refl;
+          formats = refl;
+          people = refl;
+          chromRight = r .chrom;
+          posRight = r .pos;
+          rlenRight = r .rlen;
+          qualRight = r .qual;
+          countsRight = r .counts;
+          peopleRight = r .people;
+        } in
+        rw (k .1) at fits
+
+pub fits-blocks : (f : Facts) (s : List ℕ) (t : Site) → Fits f s t → blocks s ≡ Lent (t .border) (t .length)
+fits-blocks f s t x =
+    blocks-lends s (t .border) (t .length)
+    (record { border = x .border; whole = x .whole; there = x .there; most = x .most; site = x .site })
+
+fits-right : (f : Facts) (s : List ℕ) (t : Site) → Fits f s t → Right f s
+fits-right f s t x =
+    record {
+      chrom = rw (x .chrom) (x .chromRight);
+      pos = rw (x .pos) (x .posRight);
+      rlen = rw (x .rlen) (x .rlenRight);
+      qual = rw (x .qual) (x .qualRight);
+      counts = rw (x .alleles) (x .countsRight);
+      people = rw (x .formats, x .people) (x .peopleRight);
+    }
 
 pub fits-fixed : (f : Facts) (s : List ℕ) (t : Site) → Fits f s t → fixed f s ≡ Front t
-unfolding fixed
+unfolding fixed siteAt
 fits-fixed f s t x =
-    let l : Lends s (t .border) (t .length) = record { border = x .border; whole = x .whole; there = x .there; most = x .most; site = x .site } in
     rw (
-      blocks-lends s (t .border) (t .length) l,
+      fits-blocks f s t x,
+      wrong-none f s (fits-right f s t x),
       x .chrom,
       x .pos,
       x .rlen,
+      x .qual,
       x .alleles,
       x .infos,
       x .formats,
       x .people,
-      x .qual,
-      x .chromRight,
-      x .posRight,
-      x .rlenRight,
-      x .countsRight,
-      x .peopleRight,
-      x .qualRight,
     )

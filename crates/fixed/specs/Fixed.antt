@@ -9,10 +9,11 @@ use Rattle.values.specs.Answers.{refusal}
 use Rattle.values.specs.declared.Refusal.{Refusal}
 use Rattle.fixed.specs.Layout.{indivAt, chromAt, posAt, rlenAt, countsAt, peopleAt, qualAt, idAt, mostBytes, field, posWrong, rlenWrong, countsWrong, peopleWrong, qualWrong}
 use Rattle.fixed.specs.declared.Facts.{Facts}
+use Rattle.fixed.specs.declared.Site.{Site}
 use Rattle.fixed.specs.declared.Blocks.{Blocks}
 use Rattle.fixed.specs.declared.Blocks.the-variants.{Lent, Refused as NoBlocks}
 use Rattle.fixed.specs.declared.Fixed.{Fixed}
-use Rattle.fixed.specs.declared.Fixed.the-variants.{Site, Refused as NoSite}
+use Rattle.fixed.specs.declared.Fixed.the-variants.{Site as Front, Refused as NoSite}
 
 -- 01's number and values for each case: the blocks, refused or the places where the genotype block begins and ends; the fixed
 -- fields, refused or a site
@@ -37,30 +38,38 @@ blocks s =
     (pick (ltb border idAt) (noBlocks 3 border)
     (Lent border whole))))
 
--- the fixed fields in the order of their bytes; the first that breaks its rule gives 5 at its place
-abbrev pub fields : Facts → List ℕ → Blocks → Fixed
-fields f s (NoBlocks r) = NoSite r
-fields f s (Lent border whole) =
-    let counts = field countsAt s in
+-- the place of the first fixed field, in the order of the bytes, that breaks its rule; 0 where each keeps its own
+unfoldable pub wrongAt : Facts → List ℕ → ℕ
+wrongAt f s =
     let members = field peopleAt s in
-    pick (outside (f .contigs) (field chromAt s)) (noSite 5 chromAt)
-    (pick (posWrong (field posAt s)) (noSite 5 posAt)
-    (pick (rlenWrong (field rlenAt s)) (noSite 5 rlenAt)
-    (pick (countsWrong (counts / 65536)) (noSite 5 countsAt)
-    (pick (peopleWrong (f .people) (members / 16777216) (members % 16777216)) (noSite 5 peopleAt)
-    (pick (qualWrong (field qualAt s)) (noSite 5 qualAt)
-    (Site (record {
+    pick (outside (f .contigs) (field chromAt s)) chromAt
+    (pick (posWrong (field posAt s)) posAt
+    (pick (rlenWrong (field rlenAt s)) rlenAt
+    (pick (qualWrong (field qualAt s)) qualAt
+    (pick (countsWrong (field countsAt s / 65536)) countsAt
+    (pick (peopleWrong (f .people) (members / 16777216) (members % 16777216)) peopleAt
+    0)))))
+
+-- what the fixed fields say, of a record that has its blocks there
+unfoldable pub siteAt : ℕ → ℕ → List ℕ → Site
+siteAt border whole s =
+    record {
       length = whole;
       border = border;
       chrom = field chromAt s;
       pos = field posAt s;
       rlen = field rlenAt s;
       qual = field qualAt s;
-      alleles = counts / 65536;
-      infos = counts % 65536;
-      formats = members / 16777216;
-      people = members % 16777216;
-    })))))))
+      alleles = field countsAt s / 65536;
+      infos = field countsAt s % 65536;
+      formats = field peopleAt s / 16777216;
+      people = field peopleAt s % 16777216;
+    }
+
+-- the first fixed field that breaks its rule gives 5 at its place
+abbrev pub fields : Facts → List ℕ → Blocks → Fixed
+fields f s (NoBlocks r) = NoSite r
+fields f s (Lent border whole) = let at = wrongAt f s in pick (eqb at 0) (Front (siteAt border whole s)) (noSite 5 at)
 
 unfoldable pub fixed : Facts → List ℕ → Fixed
 fixed f s = fields f s (blocks s)
@@ -72,4 +81,4 @@ blocksInside end (Lent border whole) = (idAt ≤ border) × (border ≤ whole) �
 
 abbrev pub fixedInside : ℕ → Fixed → Type 0
 fixedInside end (NoSite r) = Unit {0}
-fixedInside end (Site t) = (idAt ≤ t .border) × (t .border ≤ t .length) × (t .length ≤ end) × (t .length ≤ mostBytes)
+fixedInside end (Front t) = (idAt ≤ t .border) × (t .border ≤ t .length) × (t .length ≤ end) × (t .length ≤ mostBytes)

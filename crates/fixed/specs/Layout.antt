@@ -1,5 +1,5 @@
 -- The layout of a record's front: the place of each fixed field, and the rule that each keeps. Rests on words' numbers.
-use Prim.Native.Nat.{ℕ, _/_}
+use Prim.Native.Nat.{ℕ, _+_}
 use mathlib.Core.List.{List}
 use mathlib.Core.Bool.{Bool, true, false}
 use lib.Dec.{ltb, leb, eqb}
@@ -20,17 +20,21 @@ posAt = 12
 abbrev pub rlenAt : ℕ
 rlenAt = 16
 
+abbrev pub qualAt : ℕ
+qualAt = 20
+
 abbrev pub countsAt : ℕ
-countsAt = 20
+countsAt = 24
 
 abbrev pub peopleAt : ℕ
-peopleAt = 24
-
-abbrev pub qualAt : ℕ
-qualAt = 28
+peopleAt = 28
 
 abbrev pub idAt : ℕ
 idAt = 32
+
+-- of the fields that are filled in last, both block lengths and both counts, the last ends before here
+abbrev pub filledTo : ℕ
+filledTo = peopleAt + 4
 
 -- the most bytes of a record
 abbrev pub mostBytes : ℕ
@@ -48,6 +52,10 @@ posWrong x = pick (leb x 2147483646) false (ltb x 0xFFFFFFFF)
 abbrev pub rlenWrong : ℕ → Bool
 rlenWrong x = leb 0x80000000 x
 
+-- QUAL is refused from 7F800002 to 7F800007
+unfoldable pub qualWrong : ℕ → Bool
+qualWrong x = pick (ltb x 0x7F800002) false (leb x 0x7F800007)
+
 -- there is at least one allele
 abbrev pub countsWrong : ℕ → Bool
 countsWrong alleles = eqb alleles 0
@@ -55,7 +63,3 @@ countsWrong alleles = eqb alleles 0
 -- people equals the number given; with no people there are no FORMAT fields
 unfoldable pub peopleWrong : ℕ → ℕ → ℕ → Bool
 peopleWrong given formats people = pick (eqb people given) (pick (eqb people 0) (ltb 0 formats) false) true
-
--- QUAL is refused from 7F800002 to 7F800007
-unfoldable pub qualWrong : ℕ → Bool
-qualWrong x = pick (ltb x 0x7F800002) false (leb x 0x7F800007)

@@ -3,7 +3,7 @@
 ghost use mathlib.Core.Path.{_≡_};
 ghost use lib.ListN.{length};
 ghost use Rattle.fixed.specs.Layout.{field, posWrong, peopleWrong, qualWrong};
-ghost use Rattle.fixed.specs.Fixed.{blocks, fixed, blocksRefusal, blocksInside, fixedInside};
+ghost use Rattle.fixed.specs.Fixed.{blocks, wrongAt, siteAt, fixed, blocksRefusal, blocksInside, fixedInside};
 use values::Refusal;
 
 // What the header says: strings in the dictionary, contigs, people, and the dictionary offset of GT.
@@ -53,11 +53,14 @@ pub const POS: usize = 12;
 
 pub const RLEN: usize = 16;
 
-pub const COUNTS: usize = 20;
+pub const QUAL: usize = 20;
 
-pub const PEOPLE: usize = 24;
+pub const COUNTS: usize = 24;
 
-pub const QUAL: usize = 28;
+pub const PEOPLE: usize = 28;
+
+// Of the fields that are filled in last, both block lengths and both counts, the last ends before here.
+pub const FILLED: usize = PEOPLE + 4;
 
 // The four bytes at a place as a number.
 fn field_at(s: &[u8], at: usize) -> u32
@@ -126,6 +129,16 @@ pub fn pos_wrong(bits: u32) -> bool
     bits < 0xFFFFFFFF
 }
 
+// Whether QUAL is an end of vector or reserved.
+pub fn qual_wrong(bits: u32) -> bool
+    ensures { λ r. ⌜ r ≡ qualWrong bits ⌝ }
+{
+    if bits < 0x7F800002 {
+        return false;
+    }
+    bits <= 0x7F800007
+}
+
 // Whether FORMAT fields and people break their rule: people are those of the header, and without people there is no FORMAT field.
 fn people_wrong(given: u32, formats: u32, people: u32) -> bool
     ensures { λ r. ⌜ r ≡ peopleWrong given formats people ⌝ }
@@ -139,14 +152,50 @@ fn people_wrong(given: u32, formats: u32, people: u32) -> bool
     true
 }
 
-// Whether QUAL is an end of vector or reserved.
-pub fn qual_wrong(bits: u32) -> bool
-    ensures { λ r. ⌜ r ≡ qualWrong bits ⌝ }
+// The place of the first fixed field, in the order of the bytes, that breaks its rule; 0 where each keeps its own.
+fn wrong_at(s: &[u8], facts: Facts) -> usize
+    ensures { λ r. ⌜ r ≡ wrongAt facts (now (s .entry)) ⌝ }
 {
-    if bits < 0x7F800002 {
-        return false;
+    if words::is_outside(facts.contigs, field_at(s, CHROM)) {
+        return CHROM;
     }
-    bits <= 0x7F800007
+    if pos_wrong(field_at(s, POS)) {
+        return POS;
+    }
+    if 0x80000000 <= field_at(s, RLEN) {
+        return RLEN;
+    }
+    if qual_wrong(field_at(s, QUAL)) {
+        return QUAL;
+    }
+    if field_at(s, COUNTS) / 65536 == 0 {
+        return COUNTS;
+    }
+    let members = field_at(s, PEOPLE);
+    if people_wrong(facts.people, members / 16777216, members % 16777216) {
+        return PEOPLE;
+    }
+    0
+}
+
+// What the fixed fields say, of a record that has its blocks there.
+fn site_at(s: &[u8], border: usize, length: usize) -> Site
+    ensures { λ r. ⌜ r ≡ siteAt border length (now (s .entry)) ⌝ }
+{
+    let counts = field_at(s, COUNTS);
+    let members = field_at(s, PEOPLE);
+    Site {
+        length,
+        border,
+        chrom: field_at(s, CHROM),
+        pos: field_at(s, POS),
+        rlen: field_at(s, RLEN),
+        qual: field_at(s, QUAL),
+        alleles: (counts / 65536) as u16,
+        infos: (counts % 65536) as u16,
+        formats: (members / 16777216) as u8,
+        people: members % 16777216,
+    }
 }
 
 // The blocks and the fixed fields of the record at the start of a slice.
@@ -158,58 +207,12 @@ pub fn fixed_fields(s: &[u8], facts: Facts) -> Fixed
     let Blocks::Lent { border, length } = b else {
         return Fixed::Refused(blocks_refusal(b));
     };
-    let chrom = field_at(s, CHROM);
-    if words::is_outside(facts.contigs, chrom) {
+    let wrong = wrong_at(s, facts);
+    if wrong != 0 {
         return Fixed::Refused(Refusal {
             number: 5,
-            place: CHROM,
+            place: wrong,
         });
     }
-    let pos = field_at(s, POS);
-    if pos_wrong(pos) {
-        return Fixed::Refused(Refusal {
-            number: 5,
-            place: POS,
-        });
-    }
-    let rlen = field_at(s, RLEN);
-    if 0x80000000 <= rlen {
-        return Fixed::Refused(Refusal {
-            number: 5,
-            place: RLEN,
-        });
-    }
-    let counts = field_at(s, COUNTS);
-    if counts / 65536 == 0 {
-        return Fixed::Refused(Refusal {
-            number: 5,
-            place: COUNTS,
-        });
-    }
-    let members = field_at(s, PEOPLE);
-    if people_wrong(facts.people, members / 16777216, members % 16777216) {
-        return Fixed::Refused(Refusal {
-            number: 5,
-            place: PEOPLE,
-        });
-    }
-    let qual = field_at(s, QUAL);
-    if qual_wrong(qual) {
-        return Fixed::Refused(Refusal {
-            number: 5,
-            place: QUAL,
-        });
-    }
-    Fixed::Site(Site {
-        length,
-        border,
-        chrom,
-        pos,
-        rlen,
-        qual,
-        alleles: (counts / 65536) as u16,
-        infos: (counts % 65536) as u16,
-        formats: (members / 16777216) as u8,
-        people: members % 16777216,
-    })
+    Fixed::Site(site_at(s, border, length))
 }

@@ -11,7 +11,7 @@ use Rattle.words.proofs.Words.{length-bytes}
 use Rattle.stores.specs.Stores.{filled}
 use Rattle.stores.proofs.Inside.{filled-inside}
 use Rattle.stores.proofs.Room.{filled-room, filled-short}
-use Rattle.fixed.specs.Layout.{indivAt, chromAt, posAt, rlenAt, countsAt, peopleAt, qualAt, idAt}
+use Rattle.fixed.specs.Layout.{indivAt, chromAt, posAt, rlenAt, countsAt, peopleAt, qualAt, idAt, filledTo}
 use Rattle.front.specs.Front.{frontBytes, fieldsFilled}
 
 -- a number stored in the first bytes, which stand at the buffer's start
@@ -72,7 +72,7 @@ bytes-low v =
 number-room : (buf : List ℕ) (i v : ℕ) → i + 4 ≤ length buf → filled buf i (bytes 4 v) ≡ sets buf i (bytes 4 v)
 number-room buf i v h = filled-room buf i (bytes 4 v) (rw (length-bytes 4 v) h)
 
-pub fields-stored : (buf : List ℕ) (border at alleles infos formats people : ℕ) → peopleAt + 4 ≤ length buf
+pub fields-stored : (buf : List ℕ) (border at alleles infos formats people : ℕ) → filledTo ≤ length buf
     → filled (filled (filled (filled buf 0 (bytes 4 (border - 8))) indivAt (bytes 4 (at - border))) countsAt (bytes 4 (alleles * 65536 + infos)))
     peopleAt (bytes 4 ((formats * 16777216 + people) % 4294967296))
     ≡ fieldsFilled border at alleles infos formats people buf

@@ -6,7 +6,7 @@ ghost use lib.Dec.{ltb};
 ghost use lib.ListN.{length};
 ghost use Rattle.words.specs.Pick.{pick};
 ghost use Rattle.stores.specs.Stores.{filled};
-ghost use Rattle.fixed.specs.Layout.{peopleAt};
+ghost use Rattle.fixed.specs.Layout.{filledTo};
 ghost use Rattle.front.specs.Front.{fieldsNumber, frontBytes, fieldsFilled};
 use fixed::Facts;
 
@@ -75,9 +75,9 @@ pub fn fill_in(
     formats: u8,
     people: u32,
 )
-    ensures { λ _. ⌜ now (buf .exit) ≡ pick (ltb (length (now (buf .entry))) (peopleAt + 4)) (now (buf .entry)) (fieldsFilled border at alleles infos formats people (now (buf .entry))) ⌝ }
+    ensures { λ _. ⌜ now (buf .exit) ≡ pick (ltb (length (now (buf .entry))) filledTo) (now (buf .entry)) (fieldsFilled border at alleles infos formats people (now (buf .entry))) ⌝ }
 {
-    if buf.len() < fixed::PEOPLE + 4 {
+    if buf.len() < fixed::FILLED {
         return;
     }
     let shared = less(border, 8);

@@ -8,7 +8,7 @@ use Rattle.values.specs.Values.{integer, trueLength, keyed, described, present}
 use Rattle.vectors.specs.Vectors.{numbers, shownNumbers, vector, vectors, judged}
 use Rattle.vectors.specs.Sound.{highest, codeMost, sound}
 use Rattle.fixed.specs.Layout.{field, posWrong, peopleWrong, qualWrong}
-use Rattle.fixed.specs.Fixed.{blocks, fixed}
+use Rattle.fixed.specs.Fixed.{blocks, wrongAt, siteAt, fixed}
 use Rattle.site.specs.Steps.{times}
 use Rattle.site.specs.Alleles.{alleleBytes, allele}
 use Rattle.site.specs.Filters.{filters, filtered, filter}
@@ -20,7 +20,7 @@ use Rattle.laws.specs.Sample.{sample}
 use Rattle.laws.specs.Fetched.{Fetched}
 
 pub sample-fetched : Fetched
-unfolding sample among le number outside rowOf widthOf marked kind widened shown integer trueLength keyed described present numbers shownNumbers vector vectors judged highest codeMost sound field posWrong peopleWrong qualWrong blocks fixed times alleleBytes allele filters filtered filter info site roleOf gtNow formats siteOf genotypesOf reading alone paired passing past toFilter toInfo toField fieldIn fieldOf found fetched
+unfolding sample among le number outside rowOf widthOf marked kind widened shown integer trueLength keyed described present numbers shownNumbers vector vectors judged highest codeMost sound field posWrong peopleWrong qualWrong blocks wrongAt siteAt fixed times alleleBytes allele filters filtered filter info site roleOf gtNow formats siteOf genotypesOf reading alone paired passing past toFilter toInfo toField fieldIn fieldOf found fetched
 sample-fetched =
     record {
       id = refl;

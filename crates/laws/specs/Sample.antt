@@ -1,7 +1,7 @@
 -- 01's sample record, the input of the line program's example: how it is read, what it
 -- shows, its tally and the line that is printed of it. Rests on the definitions of record, tally and frames.
 use mathlib.Core.Path.{_≡_}
-use mathlib.Core.List.{List, [], _∷_}
+use mathlib.Core.List.{List, [], _∷_, _++_}
 use Prim.Native.Nat.{ℕ}
 use lib.ListN.{replicate}
 use Rattle.fixed.specs.declared.Facts.{Facts}
@@ -20,11 +20,18 @@ use Rattle.built.specs.Builds.{Tight}
 abbrev pub facts : Facts
 facts = record { strings = 4; contigs = 1; people = 2; gt = 3 }
 
+-- the first 32 bytes, with a given l_indiv, FORMAT fields and people; then ID, alleles, FILTER and INFO
+abbrev pub sampleFront : ℕ → ℕ → ℕ → List ℕ
+sampleFront indiv formats people =
+    0x23 ∷ 0 ∷ 0 ∷ 0 ∷ indiv ∷ 0 ∷ 0 ∷ 0 ∷ 0 ∷ 0 ∷ 0 ∷ 0 ∷ 0x21 ∷ 0x38 ∷ 0 ∷ 0 ∷ 0x01 ∷ 0 ∷ 0 ∷ 0 ∷
+    0 ∷ 0 ∷ 0xE8 ∷ 0x41 ∷ 0x01 ∷ 0 ∷ 0x02 ∷ 0 ∷ people ∷ 0 ∷ 0 ∷ formats ∷ []
+
+abbrev pub sampleFields : List ℕ
+sampleFields = 0x07 ∷ 0x17 ∷ 0x47 ∷ 0x17 ∷ 0x41 ∷ 0x11 ∷ 0 ∷ 0x11 ∷ 0x02 ∷ 0x11 ∷ 0x0E ∷ []
+
+-- and GT of two people
 unfoldable pub sample : List ℕ
-sample =
-    0x23 ∷ 0 ∷ 0 ∷ 0 ∷ 0x07 ∷ 0 ∷ 0 ∷ 0 ∷ 0 ∷ 0 ∷ 0 ∷ 0 ∷ 0x21 ∷ 0x38 ∷ 0 ∷ 0 ∷ 0x01 ∷ 0 ∷ 0 ∷ 0 ∷ 0x01 ∷ 0 ∷ 0x02 ∷ 0 ∷ 0x02 ∷ 0 ∷
-    0 ∷ 0x01 ∷ 0 ∷ 0 ∷ 0xE8 ∷ 0x41 ∷ 0x07 ∷ 0x17 ∷ 0x47 ∷ 0x17 ∷ 0x41 ∷ 0x11 ∷ 0 ∷ 0x11 ∷ 0x02 ∷ 0x11 ∷ 0x0E ∷ 0x11 ∷ 0x03 ∷ 0x21 ∷
-    0x02 ∷ 0x03 ∷ 0x04 ∷ 0x81 ∷ []
+sample = sampleFront 7 1 2 ++ (sampleFields ++ (0x11 ∷ 0x03 ∷ 0x21 ∷ 0x02 ∷ 0x03 ∷ 0x04 ∷ 0x81 ∷ []))
 
 abbrev pub sampleSite : Site
 sampleSite =

@@ -6,7 +6,7 @@ use native.Mathlib.Omega.{arith}
 use lib.Dec.{ltb}
 use borrow.Author.Tests.{ltb-false, ltb-true}
 use Rattle.words.specs.Pick.{pick}
-use Rattle.fixed.specs.Layout.{peopleAt, idAt}
+use Rattle.fixed.specs.Layout.{idAt, filledTo}
 use Rattle.fixed.specs.declared.Facts.{Facts}
 use Rattle.append.specs.Append.{firstOf}
 use Rattle.append.proofs.Numbers.{first-zero}
@@ -37,6 +37,6 @@ pub begin-room : (rank room : ℕ) (f : Facts) (chrom pos rlen qual : ℕ) → w
 unfolding wrongBegin
 begin-room rank room f chrom pos rlen qual h = reach-zero room idAt (first-zero _ _ (first-zero _ _ h .1) .1)
 
-pub end-room : (rank room : ℕ) → wrongEnd rank room ≡ 0 → peopleAt + 4 ≤ room
+pub end-room : (rank room : ℕ) → wrongEnd rank room ≡ 0 → filledTo ≤ room
 unfolding wrongEnd
-end-room rank room h = reach-zero room (peopleAt + 4) (first-zero _ _ h .1)
+end-room rank room h = reach-zero room filledTo (first-zero _ _ h .1)

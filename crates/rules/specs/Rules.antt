@@ -8,7 +8,7 @@ use lib.ListN.{length}
 use Rattle.words.specs.Lists.{among}
 use Rattle.words.specs.Pick.{pick}
 use Rattle.words.specs.Words.{outside}
-use Rattle.fixed.specs.Layout.{peopleAt, idAt}
+use Rattle.fixed.specs.Layout.{idAt, filledTo}
 use Rattle.fixed.specs.declared.Facts.{Facts}
 use Rattle.record.specs.Shown.{text}
 use Rattle.append.specs.Append.{firstOf}
@@ -87,4 +87,4 @@ wrongFormat rank f formats earlier key whole len count =
 
 -- end: room for the lengths and counts
 unfoldable pub wrongEnd : ℕ → ℕ → ℕ
-wrongEnd rank room = firstOf (ordered 4 6 rank) (reachNumber room (peopleAt + 4))
+wrongEnd rank room = firstOf (ordered 4 6 rank) (reachNumber room filledTo)

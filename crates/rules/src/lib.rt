@@ -130,10 +130,7 @@ pub fn begin_number(
 pub fn end_number(rank: u8, room: usize) -> u32
     ensures { λ r. ⌜ r ≡ wrongEnd rank room ⌝ }
 {
-    first_of(
-        order_number(rank, 4, 6),
-        reach_number(room, fixed::PEOPLE + 4),
-    )
+    first_of(order_number(rank, 4, 6), reach_number(room, fixed::FILLED))
 }
 
 // What is wrong with an ID.

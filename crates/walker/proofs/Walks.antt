@@ -16,26 +16,20 @@ use Rattle.values.specs.declared.Integer.{Integer}
 use Rattle.values.specs.declared.Integer.the-variants.{One, Refused as NoInteger}
 use Rattle.values.specs.declared.Value.{Value}
 use Rattle.values.specs.declared.Value.the-variants.{Present, Refused as NoValue}
-use Rattle.fixed.specs.Layout.{chromAt, posAt, rlenAt, countsAt, peopleAt, qualAt, idAt, mostBytes, field, posWrong, rlenWrong, countsWrong, peopleWrong, qualWrong}
-use Rattle.fixed.specs.Fixed.{noSite, noBlocks, blocks, fields, fixed}
+use Rattle.fixed.specs.Layout.{idAt, field}
 use Rattle.fixed.specs.declared.Facts.{Facts}
 use Rattle.fixed.specs.declared.Site.{Site}
-use Rattle.fixed.specs.declared.Blocks.{Blocks}
-use Rattle.fixed.specs.declared.Blocks.the-variants.{Lent, Refused as NoBlocks}
-use Rattle.fixed.specs.declared.Fixed.{Fixed}
-use Rattle.fixed.specs.declared.Fixed.the-variants.{Site as Front, Refused as NoSite}
 use Rattle.site.specs.Site.{info}
 use Rattle.site.specs.Steps.{then, times}
 use Rattle.site.specs.declared.Step.{Step}
-use Rattle.site.specs.declared.Step.the-variants.{At, Refused as NoStep}
+use Rattle.site.specs.declared.Step.the-variants.{At}
 use Rattle.genotypes.specs.declared.Gt.{Gt}
-use Rattle.genotypes.specs.declared.Genotypes.{Genotypes}
-use Rattle.genotypes.specs.declared.Genotypes.the-variants.{Sound, Refused as NoGenotypes}
-use Rattle.record.specs.Reading.{reading, afterFixed, afterSite, afterGenotypes, siteOf, genotypesOf}
+use Rattle.record.specs.Reading.{reading, siteOf}
 use Rattle.record.specs.declared.Reading.the-variants.{Accepted}
+use Rattle.record.proofs.Accepted.{accepted, accepted-fits}
 use Rattle.fetched.proofs.Agree.{Went, went, times-passed, info-passed}
 use Rattle.fetched.proofs.Inside.{passing-later, past-later}
-use Rattle.fetched.proofs.There.{accepted, site-walk}
+use Rattle.fetched.proofs.There.{site-walk}
 use Rattle.fetch.specs.Fetch.{valueField, afterKey, paired, fieldStep, passing, past, toInfo, toField, fieldIn, fieldOf, found}
 use Rattle.fetch.specs.declared.Kind.the-variants.{Info as InfoKind}
 use Rattle.fetch.specs.declared.Found.{Found as Fetched}
@@ -81,74 +75,21 @@ walk-past s people (suc n) at {q} h e g =
     let m : nextAt s at ≡ w .place = ap (λ (p : Pair). afterPair p at) (pair-lent s at h e) ∙ step-pair (paired 1 Info at (drop at block)) at (w .place) (w .here) in
     rw m (walk-past s people n (w .place) h e (rw (drop-on block at (w .place) l) at (w .on)))
 
--- an accepted record's front: its site block is all lent, and ends where the site says
-front-of : (f : Facts) (s : List ℕ) (t : Site) (g : Gt) → reading f s ≡ Accepted t g → fixed f s ≡ Front t
-unfolding reading
-front-of f s t g h = by-front (fixed f s) h
-  where
-    by-genotypes : (t′ : Site) (x : Genotypes) → afterGenotypes t′ x ≡ Accepted t g → Front t′ ≡ Front t
-    by-genotypes t′ (NoGenotypes r) e = cc
-    by-genotypes t′ (Sound g′) e = cc
-
-    by-site : (t′ : Site) (p : Step) → afterSite f t′ s p ≡ Accepted t g → Front t′ ≡ Front t
-    by-site t′ (NoStep r) e = cc
-    by-site t′ (At q) e = by-genotypes t′ (genotypesOf f t′ s) e
-
-    by-front : (x : Fixed) → afterFixed f s x ≡ Accepted t g → x ≡ Front t
-    by-front (NoSite r) e = cc
-    by-front (Front t′) e = by-site t′ (siteOf f t′ s) e
-
--- a test whose refusal did not come
-no-site : (b : Bool) (n p : ℕ) (y : Fixed) {t : Site} → pick b (noSite n p) y ≡ Front t → y ≡ Front t
-no-site true n p y h = cc
-no-site false n p y h = h
-
-site-border : (f : Facts) (s : List ℕ) (b : Blocks) (t : Site) → fields f s b ≡ Front t → b ≡ Lent (t .border) (t .length)
-site-border f s (NoBlocks r) t h = cc
-site-border f s (Lent border whole) t h =
-    let h1 = no-site (outside (f .contigs) (field chromAt s)) 5 chromAt _ h in
-    let h2 = no-site (posWrong (field posAt s)) 5 posAt _ h1 in
-    let h3 = no-site (rlenWrong (field rlenAt s)) 5 rlenAt _ h2 in
-    let h4 = no-site (countsWrong (field countsAt s / 65536)) 5 countsAt _ h3 in
-    let h5 = no-site (peopleWrong (f .people) (field peopleAt s / 16777216) (field peopleAt s % 16777216)) 5 peopleAt _ h4 in
-    let h6 = no-site (qualWrong (field qualAt s)) 5 qualAt _ h5 in
-    same-blocks h6
-  where
-    same-blocks : {u : Site} → Front u ≡ Front t → Lent (u .border) (u .length) ≡ Lent (t .border) (t .length)
-    same-blocks {u} e = let k : u ≡ t = cc in rw k
-
-no-blocks : (b : Bool) (n p : ℕ) (y : Blocks) {x w : ℕ} → pick b (noBlocks n p) y ≡ Lent x w → (b ≡ false) × (y ≡ Lent x w)
-no-blocks true n p y h = let z : _≡_ {A = ℕ} 0 1 = cc in absurd (omega arith)
-no-blocks false n p y h = (refl, h)
-
-blocks-lent : (s : List ℕ) (border whole : ℕ) → blocks s ≡ Lent border whole → (8 ≤ length s) × (border ≡ 8 + number 4 s) × (border ≤ length s)
-unfolding blocks field
-blocks-lent s border whole h =
-    let b = 8 + number 4 s in
-    let w = b + number 4 (drop 4 s) in
-    let h1 = no-blocks (ltb (length s) 8) 1 0 _ h in
-    let h2 = no-blocks (ltb mostBytes w) 2 0 _ (h1 .1) in
-    let h3 = no-blocks (ltb (length s) w) 1 0 _ (h2 .1) in
-    let h4 = no-blocks (ltb b idAt) 3 b _ (h3 .1) in
-    let k : b ≡ border = same (h4 .1) in
-    let e : 8 ≤ length s = ltb-false (length s) 8 (h1 .0) in
-    let l : w ≤ length s = ltb-false (length s) w (h3 .0) in
-    (e, sym k, omega arith)
-  where
-    same : {x y u v : ℕ} → Lent x y ≡ Lent u v → x ≡ u
-    same e = cc
-
--- of an accepted record
+-- of an accepted record the site block is all lent, and ends where the site says
 pub record Lents (t : Site) (s : List ℕ) : Type 0 where
   pub some : 8 ≤ length s
   pub border : t .border ≡ 8 + number 4 s
   pub lent : 8 + number 4 s ≤ length s
 
 pub accepted-lent : (f : Facts) (s : List ℕ) (t : Site) (g : Gt) → reading f s ≡ Accepted t g → Lents t s
-unfolding fixed
+unfolding field
 accepted-lent f s t g h =
-    let k = blocks-lent s (t .border) (t .length) (site-border f s (blocks s) t (front-of f s t g h)) in
-    record { some = k .0; border = k .1; lent = rw (k .1) at (k .2) }
+    let x = accepted-fits f s t g h in
+    let a = x .border in
+    let b = x .whole in
+    let c = x .there in
+    let d = x .site in
+    record { some = omega arith; border = sym a; lent = omega arith }
 
 -- where fewer fields lead, when more are passed
 record Reached (people m at : ℕ) (l : List ℕ) : Type 0 where

@@ -4,7 +4,8 @@ use sikalumdo::Facts;
 
 use crate::elements::{end_of, pack, width, CODES, FLOAT_END, MISSING};
 use crate::random::Random;
-use crate::record::{set_lengths, Laid, Record, Spot, What};
+use crate::record::{set_lengths, set_word, Laid, Record, Spot, What};
+use crate::record::{CHROM, GENOTYPE_COUNTS, ID, POS, QUAL, RLEN, SITE_COUNTS};
 use crate::shape::offset;
 
 /// Bytes that are lent as a record, and the facts they are judged by.
@@ -127,13 +128,6 @@ fn damage_bytes(random: &mut Random, input: &mut Input, laid: &Laid) {
     }
 }
 
-/// Writes a word, if it is all there.
-fn set_word(bytes: &mut [u8], at: usize, word: u32) {
-    if let Some(four) = bytes.get_mut(at..at + 4) {
-        four.copy_from_slice(&word.to_le_bytes());
-    }
-}
-
 fn word(bytes: &[u8], at: usize) -> u32 {
     bytes.get(at..at + 4).map_or(0, |four| u32::from_le_bytes([four[0], four[1], four[2], four[3]]))
 }
@@ -150,18 +144,19 @@ fn block_length(random: &mut Random, bytes: &mut [u8]) {
 
 /// One of the four counts, off by one or any number.
 fn count(random: &mut Random, bytes: &mut [u8]) {
-    let by = random.pick(&[(20, 1), (20, 1 << 16), (24, 1), (24, 1 << 24)]);
+    let units = [(SITE_COUNTS, 1), (SITE_COUNTS, 1 << 16), (GENOTYPE_COUNTS, 1), (GENOTYPE_COUNTS, 1 << 24)];
+    let (at, unit) = random.pick(&units);
     let any = random.next() as u32;
     let times = random.pick(&[1, u32::MAX, 2, u32::MAX - 1, any]);
-    set_word(bytes, by.0, word(bytes, by.0).wrapping_add(times.wrapping_mul(by.1)));
+    set_word(bytes, at, word(bytes, at).wrapping_add(times.wrapping_mul(unit)));
 }
 
 fn fixed_field(random: &mut Random, input: &mut Input) {
     let (at, value) = match random.below(4) {
-        0 => (8, random.pick(&[input.facts.contigs, u32::MAX, 1 << 31])),
-        1 => (12, random.pick(&[i32::MAX as u32, -2i32 as u32, 1 << 31])),
-        2 => (16, random.pick(&[u32::MAX, 1 << 31])),
-        _ => (28, FLOAT_END + random.below(7) as u32),
+        0 => (CHROM, random.pick(&[input.facts.contigs, u32::MAX, 1 << 31])),
+        1 => (POS, random.pick(&[i32::MAX as u32, -2i32 as u32, 1 << 31])),
+        2 => (RLEN, random.pick(&[u32::MAX, 1 << 31])),
+        _ => (QUAL, FLOAT_END + random.below(7) as u32),
     };
     set_word(&mut input.bytes, at, value);
 }
@@ -270,7 +265,7 @@ fn wrong_facts(random: &mut Random, facts: &mut Facts) {
 /// A site block too short for its fixed fields, in a record all of whose bytes are there.
 fn short_site(random: &mut Random, bytes: &mut [u8]) {
     if bytes.len() >= 8 && random.one_in(3) {
-        set_lengths(bytes, (8 + random.below(24)).min(bytes.len()));
+        set_lengths(bytes, (CHROM + random.below(ID - CHROM)).min(bytes.len()));
     }
 }
 
@@ -278,11 +273,17 @@ fn short_site(random: &mut Random, bytes: &mut [u8]) {
 pub fn noise(random: &mut Random, facts: Facts) -> Input {
     let count = random.below(200);
     let mut bytes = random.bytes(count);
-    if count >= 32 && !random.one_in(4) {
-        set_lengths(&mut bytes, random.within(32, count as i64) as usize);
-        let people = facts.people & 0xFF_FFFF;
-        let words = [0, random.below(1000) as u32, 1, 1 << 16 | random.below(2) as u32, people, 0];
-        words.into_iter().enumerate().for_each(|(number, word)| set_word(&mut bytes, 8 + 4 * number, word));
+    if count >= ID && !random.one_in(4) {
+        set_lengths(&mut bytes, random.within(ID as i64, count as i64) as usize);
+        let fields = [
+            (CHROM, 0),
+            (POS, random.below(1000) as u32),
+            (RLEN, 1),
+            (QUAL, 0),
+            (SITE_COUNTS, 1 << 16 | random.below(2) as u32),
+            (GENOTYPE_COUNTS, facts.people & 0xFF_FFFF),
+        ];
+        fields.into_iter().for_each(|(at, word)| set_word(&mut bytes, at, word));
     }
     Input { facts, bytes }
 }

@@ -5,6 +5,17 @@ use sikalumdo::Facts;
 
 use crate::elements::{pack, tight_code};
 
+/// The places of the fields after the two lengths, of four bytes each, and of the ID, which follows them.
+pub const CHROM: usize = 8;
+pub const POS: usize = 12;
+pub const RLEN: usize = 16;
+pub const QUAL: usize = 20;
+/// Alleles and INFO fields.
+pub const SITE_COUNTS: usize = 24;
+/// FORMAT fields and people.
+pub const GENOTYPE_COUNTS: usize = 28;
+pub const ID: usize = 32;
+
 /// A typed value: its elements as they are shown, in vectors of `len`.
 #[derive(Clone)]
 pub struct Value {
@@ -55,7 +66,6 @@ pub struct Spot {
 }
 
 /// A record's bytes.
-#[derive(Default)]
 pub struct Laid {
     pub bytes: Vec<u8>,
     pub spots: Vec<Spot>,
@@ -91,13 +101,16 @@ impl Laid {
 
 impl Record {
     pub fn lay(&self) -> Laid {
-        let counts = [
-            (self.alleles.len() << 16 | self.infos.len()) as u32,
-            (self.formats.len() << 24) as u32 | self.facts.people & 0xFF_FFFF,
+        let fields = [
+            (CHROM, self.chrom as u32),
+            (POS, self.pos as u32),
+            (RLEN, self.rlen as u32),
+            (QUAL, self.qual),
+            (SITE_COUNTS, (self.alleles.len() << 16 | self.infos.len()) as u32),
+            (GENOTYPE_COUNTS, (self.formats.len() << 24) as u32 | self.facts.people & 0xFF_FFFF),
         ];
-        let words = [0, 0, self.chrom as u32, self.pos as u32, self.rlen as u32, counts[0], counts[1], self.qual];
-        let mut laid = Laid::default();
-        pack(&mut laid.bytes, 3, &words);
+        let mut laid = Laid { bytes: vec![0; ID], spots: Vec::new() };
+        fields.into_iter().for_each(|(at, word)| set_word(&mut laid.bytes, at, word));
         [&self.id].into_iter().chain(&self.alleles).chain([&self.filter]).for_each(|value| laid.value(value));
         for (key, value) in &self.infos {
             laid.key(key);
@@ -134,6 +147,13 @@ impl Value {
         if self.length_code != 0 {
             self.length_code = tight_code(&[self.len]);
         }
+    }
+}
+
+/// Writes a word, if it is all there.
+pub fn set_word(bytes: &mut [u8], at: usize, word: u32) {
+    if let Some(four) = bytes.get_mut(at..at + 4) {
+        four.copy_from_slice(&word.to_le_bytes());
     }
 }
 

@@ -6,8 +6,9 @@
 use crate::allele;
 use crate::facts::Facts;
 use crate::filter;
-use crate::fixed::{contig_is_sound, genotype_counts, pos_is_sound, qual_is_sound, rlen_is_sound, site_counts};
-use crate::fixed::{ID_PLACE, MOST_BYTES, MOST_FORMATS, MOST_IN_SITE, MOST_PEOPLE};
+use crate::fixed::{contig_is_sound, pos_is_sound, qual_is_sound, rlen_is_sound};
+use crate::fixed::{genotype_counts, put_word, site_counts, MOST_BYTES, MOST_FORMATS, MOST_IN_SITE, MOST_PEOPLE};
+use crate::fixed::{CONTIG, GENOTYPE_COUNTS, ID_PLACE, L_INDIV, L_SHARED, POS, QUAL, RLEN, SITE_COUNTS};
 use crate::genotype;
 use crate::refusal::{Fault, Refusal, FIXED_FIELD, NO_ROOM, OUTSIDE_DICTIONARY, OUT_OF_ORDER, REPEATED};
 use crate::refusal::{TOO_LONG, WRONG_LENGTH, WRONG_TYPE};
@@ -98,9 +99,9 @@ impl Builder {
             return refuse(FIXED_FIELD);
         }
         let head = buf.get_mut(..ID_PLACE).ok_or(Refusal::of(NO_ROOM))?;
-        let words = [0, 0, contig as u32, pos as u32, rlen as u32, 0, 0, qual_bits];
-        for (slot, word) in head.as_chunks_mut().0.iter_mut().zip(words) {
-            *slot = word.to_le_bytes();
+        head.fill(0);
+        for (at, word) in [(CONTIG, contig as u32), (POS, pos as u32), (RLEN, rlen as u32), (QUAL, qual_bits)] {
+            put_word(head, at, word);
         }
         self.facts = facts;
         Ok(self.taken(Turn::Begun, ID_PLACE as u32))
@@ -160,15 +161,15 @@ impl Builder {
         self.format(buf, key, len, Values::Text(text))
     }
 
-    /// Fills in the block lengths and the counts, and nothing else: the buffer has to reach the last of them, at
-    /// bytes 24 to 27.
+    /// Fills in the block lengths and the counts, and nothing else: the buffer has to reach the end of the last of
+    /// them, the count of FORMAT fields and people.
     pub fn end(&mut self, buf: &mut [u8]) -> Result<u32, Refusal> {
         self.after(&[Turn::Filter, Turn::Info, Turn::Format])?;
-        let head = buf.get_mut(..28).ok_or(Refusal::of(NO_ROOM))?;
-        head[..4].copy_from_slice(&(self.border - 8).to_le_bytes());
-        head[4..8].copy_from_slice(&(self.length - self.border).to_le_bytes());
-        head[20..24].copy_from_slice(&site_counts(self.alleles, self.infos));
-        head[24..].copy_from_slice(&genotype_counts(self.formats(), self.facts.people));
+        let head = buf.get_mut(..GENOTYPE_COUNTS + 4).ok_or(Refusal::of(NO_ROOM))?;
+        put_word(head, L_SHARED, self.border - 8);
+        put_word(head, L_INDIV, self.length - self.border);
+        put_word(head, SITE_COUNTS, site_counts(self.alleles, self.infos));
+        put_word(head, GENOTYPE_COUNTS, genotype_counts(self.formats(), self.facts.people));
         self.turn = Turn::Ended;
         Ok(self.length)
     }

@@ -2,7 +2,7 @@
 
 use crate::facts::Facts;
 use crate::fetch::keyed;
-use crate::fixed::genotype_counts;
+use crate::fixed::{genotype_counts, put_word, GENOTYPE_COUNTS, L_INDIV};
 use crate::read::{read, Site};
 use crate::refusal::{Refusal, BAD_CHOICE, NO_ROOM};
 use crate::types::width;
@@ -20,8 +20,8 @@ pub fn choose(s: &[u8], facts: &Facts, choice: &[u32], buf: &mut [u8]) -> Result
     let length = border + chosen_bytes(s, &site, formats, choice.len())?;
     let chosen = buf.get_mut(..length).ok_or(Refusal::of(NO_ROOM))?;
     chosen[..border].copy_from_slice(&s[..border]);
-    chosen[4..8].copy_from_slice(&((length - border) as u32).to_le_bytes());
-    chosen[24..28].copy_from_slice(&genotype_counts(formats, choice.len() as u32));
+    put_word(chosen, L_INDIV, (length - border) as u32);
+    put_word(chosen, GENOTYPE_COUNTS, genotype_counts(formats, choice.len() as u32));
     write_formats(s, &site, formats, choice, &mut chosen[border..])?;
     Ok(length as u32)
 }

@@ -1,4 +1,5 @@
-//! The first 32 bytes of a record: the two block lengths, the fixed fields and the two fields of counts.
+//! The first 32 bytes of a record: the two block lengths, the fixed fields and the two fields of counts. Where each of
+//! them stands is said here and nowhere else.
 
 use crate::facts::Facts;
 use crate::refusal::{Refusal, FIXED_FIELD, PAST_BLOCK, TOO_FEW_BYTES, TOO_LONG};
@@ -12,7 +13,18 @@ pub(crate) const MOST_IN_SITE: u32 = 65_535;
 /// The most FORMAT fields that 8 bits hold.
 pub(crate) const MOST_FORMATS: usize = 255;
 
-/// The place of the ID, which follows the fixed fields.
+/// The places of the first fields, of four bytes each.
+pub(crate) const L_SHARED: usize = 0;
+pub(crate) const L_INDIV: usize = 4;
+pub(crate) const CONTIG: usize = 8;
+pub(crate) const POS: usize = 12;
+pub(crate) const RLEN: usize = 16;
+pub(crate) const QUAL: usize = 20;
+/// Alleles and INFO fields.
+pub(crate) const SITE_COUNTS: usize = 24;
+/// FORMAT fields and people.
+pub(crate) const GENOTYPE_COUNTS: usize = 28;
+/// The place of the ID, which follows them.
 pub(crate) const ID_PLACE: usize = 32;
 
 pub(crate) fn contig_is_sound(contig: i32, facts: &Facts) -> bool {
@@ -38,9 +50,14 @@ fn word(s: &[u8], at: usize) -> u32 {
     u32::from_le_bytes([s[at], s[at + 1], s[at + 2], s[at + 3]])
 }
 
+/// Writes four bytes at a place of which the caller knows that it is there.
+pub(crate) fn put_word(s: &mut [u8], at: usize, word: u32) {
+    s[at..at + 4].copy_from_slice(&word.to_le_bytes());
+}
+
 /// l_shared, where both block lengths are there.
 pub(crate) fn l_shared(s: &[u8]) -> Option<u32> {
-    (s.len() >= 8).then(|| word(s, 0))
+    (s.len() >= 8).then(|| word(s, L_SHARED))
 }
 
 /// The place of the genotype block and the length of the record, all of which is lent.
@@ -49,7 +66,7 @@ pub(crate) fn frame(s: &[u8]) -> Result<(usize, usize), Refusal> {
         return Err(Refusal::of(TOO_FEW_BYTES));
     };
     let border = 8 + u64::from(l_shared);
-    let length = border + u64::from(word(s, 4));
+    let length = border + u64::from(word(s, L_INDIV));
     if length > MOST_BYTES {
         return Err(Refusal::of(TOO_LONG));
     }
@@ -67,33 +84,33 @@ pub(crate) struct Fixed {
     pub contig: i32,
     pub pos: i32,
     pub rlen: i32,
+    pub qual_bits: u32,
     pub alleles: u32,
     pub infos: u32,
     pub formats: u32,
     pub people: u32,
-    pub qual_bits: u32,
 }
 
 /// The fixed fields of a record that has its first 32 bytes, judged in byte order.
 pub(crate) fn fixed(s: &[u8], facts: &Facts) -> Result<Fixed, Refusal> {
-    let (in_site, in_genotypes) = (word(s, 20), word(s, 24));
+    let (in_site, in_genotypes) = (word(s, SITE_COUNTS), word(s, GENOTYPE_COUNTS));
     let fixed = Fixed {
-        contig: word(s, 8) as i32,
-        pos: word(s, 12) as i32,
-        rlen: word(s, 16) as i32,
+        contig: word(s, CONTIG) as i32,
+        pos: word(s, POS) as i32,
+        rlen: word(s, RLEN) as i32,
+        qual_bits: word(s, QUAL),
         alleles: in_site >> 16,
         infos: in_site & 0xFFFF,
         formats: in_genotypes >> 24,
         people: in_genotypes & 0xFF_FFFF,
-        qual_bits: word(s, 28),
     };
     let rules = [
-        (8, contig_is_sound(fixed.contig, facts)),
-        (12, pos_is_sound(fixed.pos)),
-        (16, rlen_is_sound(fixed.rlen)),
-        (20, fixed.alleles >= 1),
-        (24, fixed.people == facts.people && (fixed.people > 0 || fixed.formats == 0)),
-        (28, qual_is_sound(fixed.qual_bits)),
+        (CONTIG, contig_is_sound(fixed.contig, facts)),
+        (POS, pos_is_sound(fixed.pos)),
+        (RLEN, rlen_is_sound(fixed.rlen)),
+        (QUAL, qual_is_sound(fixed.qual_bits)),
+        (SITE_COUNTS, fixed.alleles >= 1),
+        (GENOTYPE_COUNTS, fixed.people == facts.people && (fixed.people > 0 || fixed.formats == 0)),
     ];
     match rules.iter().find(|(_, sound)| !sound) {
         Some(&(place, _)) => Err(Refusal::at(FIXED_FIELD, place)),
@@ -101,12 +118,12 @@ pub(crate) fn fixed(s: &[u8], facts: &Facts) -> Result<Fixed, Refusal> {
     }
 }
 
-/// The count of FORMAT fields and the count of people in the one word at byte 24.
-pub(crate) fn genotype_counts(formats: u32, people: u32) -> [u8; 4] {
-    (formats << 24 | people).to_le_bytes()
+/// The count of alleles and the count of INFO fields in their one word.
+pub(crate) fn site_counts(alleles: u32, infos: u32) -> u32 {
+    alleles << 16 | infos
 }
 
-/// The count of alleles and the count of INFO fields in the one word at byte 20.
-pub(crate) fn site_counts(alleles: u32, infos: u32) -> [u8; 4] {
-    (alleles << 16 | infos).to_le_bytes()
+/// The count of FORMAT fields and the count of people in their one word.
+pub(crate) fn genotype_counts(formats: u32, people: u32) -> u32 {
+    formats << 24 | people
 }

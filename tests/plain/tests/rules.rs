@@ -6,13 +6,23 @@ const FACTS: Facts = Facts { strings: 4, contigs: 1, people: 2, gt: 3 };
 const MISSING: i32 = i32::MIN;
 const END: i32 = i32::MIN + 1;
 
+/// The places of QUAL, of the allele and INFO counts, and of the FORMAT and people counts.
+const QUAL: usize = 20;
+const SITE_COUNTS: usize = 24;
+const GENOTYPE_COUNTS: usize = 28;
+
 fn refused<T>(number: u32, place: u32) -> Result<T, Refusal> {
     Err(Refusal { number, place })
 }
 
-/// Document 01's sample record.
+/// Writes the four bytes of a field.
+fn set(record: &mut [u8], at: usize, word: u32) {
+    record[at..at + 4].copy_from_slice(&word.to_le_bytes());
+}
+
+/// Document 01's sample record, QUAL after rlen.
 fn sample() -> Vec<u8> {
-    let digits = "230000000700000000000000213800000100000001000200020000010000E841071747174111001102110E11032102030481";
+    let digits = "23000000070000000000000021380000010000000000E8410100020002000001071747174111001102110E11032102030481";
     (0..digits.len()).step_by(2).map(|at| u8::from_str_radix(&digits[at..at + 2], 16).unwrap()).collect()
 }
 
@@ -22,11 +32,11 @@ const VALUE: u32 = 38;
 /// A record of one allele and one INFO field, without people; `value` is the field's descriptor and elements.
 fn with_info(value: &[u8]) -> (Vec<u8>, Facts) {
     let mut record = vec![0; 32];
-    record[20..24].copy_from_slice(&[1, 0, 1, 0]);
+    set(&mut record, SITE_COUNTS, 1 << 16 | 1);
     record.extend([0x07, 0x17, b'A', 0x01, 0x11, 0x02]);
     record.extend(value);
     let l_shared = record.len() as u32 - 8;
-    record[..4].copy_from_slice(&l_shared.to_le_bytes());
+    set(&mut record, 0, l_shared);
     (record, Facts { people: 0, ..FACTS })
 }
 
@@ -118,16 +128,16 @@ fn elements_shown_and_called() {
 fn with_gt(codes: &[i32], people: u32, len: u8, code: u8) -> Vec<u8> {
     let width = [0, 1, 2, 4][code as usize];
     let mut record = vec![0; 32];
-    record[22] = 2;
-    record[24..28].copy_from_slice(&(1 << 24 | people).to_le_bytes());
+    set(&mut record, SITE_COUNTS, 2 << 16);
+    set(&mut record, GENOTYPE_COUNTS, 1 << 24 | people);
     record.extend([0x07, 0x17, b'A', 0x17, b'C', 0x01, 0x11, 0x03, len << 4 | code]);
     // Marks and reserved values start at the least number of each width.
     let least = -1 << (8 * width - 1);
     let narrow = |&code: &i32| if code < MISSING + 8 { least + (code - MISSING) } else { code };
     record.extend(codes.iter().flat_map(|code| narrow(code).to_le_bytes()[..width].to_vec()));
     let l_indiv = record.len() as u32 - 38;
-    record[..4].copy_from_slice(&30u32.to_le_bytes());
-    record[4..8].copy_from_slice(&l_indiv.to_le_bytes());
+    set(&mut record, 0, 30);
+    set(&mut record, 4, l_indiv);
     record
 }
 
@@ -275,12 +285,26 @@ fn walking_anywhere() {
     assert_eq!(pair_at(&sample()[..42], start - 2), None);
 }
 
-/// End writes four fields, the last of them at bytes 24 to 27, and asks for no more room.
+/// Each field that breaks its rule is refused at its own place, whatever stands behind it.
+#[test]
+fn fixed_fields_in_byte_order() {
+    let mut record = sample();
+    let broken = [(GENOTYPE_COUNTS, 3), (SITE_COUNTS, 1), (QUAL, 0x7F80_0002), (16, 1 << 31), (12, 1 << 31), (8, 1)];
+    for (place, word) in broken {
+        set(&mut record, place, word);
+        assert_eq!(read(&record, &FACTS), refused(5, place as u32));
+    }
+    let mut record = sample();
+    set(&mut record, GENOTYPE_COUNTS, 1 << 24);
+    assert_eq!(read(&record, &Facts { people: 0, ..FACTS }), refused(5, GENOTYPE_COUNTS as u32));
+}
+
+/// End writes four fields, the last of them the FORMAT and people counts, and asks for no more room.
 #[test]
 fn room_for_end() {
     let mut buf = [0; 64];
     let mut builder = filtered(&mut buf, 2);
-    assert_eq!(builder.end(&mut buf[..27]), refused(13, 0));
-    assert_eq!(builder.end(&mut buf[..28]), Ok(38));
+    assert_eq!(builder.end(&mut buf[..GENOTYPE_COUNTS + 3]), refused(13, 0));
+    assert_eq!(builder.end(&mut buf[..GENOTYPE_COUNTS + 4]), Ok(38));
     assert_eq!(read(&buf, &FACTS).map(|site| site.length), Ok(38));
 }

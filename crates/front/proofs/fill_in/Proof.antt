@@ -11,10 +11,6 @@ use Rattle.front.proofs.less.Reads as less-reads
 use Rattle.front.proofs.low.Reads as low-reads
 use Rattle.stores.proofs.put_number.Reads as put-number-reads
 
--- src/lib.rt:80:20
-add-if1 : tie.Need-add-if1
-add-if1 c = search needs
-
 -- src/lib.rt:81:9
 returns : tie.Need-returns
 returns c = rw (lt-ltb _ _ (c .if1 .taken))
@@ -81,7 +77,6 @@ pub fill-in-spec : {M : Type 1} → statement M
 fill-in-spec =
     tie.close
     (tie.spec
-    add-if1
     returns
     less-requires
     less-requires-2

@@ -13,10 +13,6 @@ use Rattle.rules.proofs.reach_number.Reads as reach-number-reads
 order-number-requires : tie.Need-order-number-requires
 order-number-requires c κs = search needs
 
--- src/lib.rt:332:28
-add-reach-number : tie.Need-add-reach-number
-add-reach-number c = search needs
-
 -- src/lib.rt:332:9
 reach-number-requires : tie.Need-reach-number-requires
 reach-number-requires c κs = search needs
@@ -37,7 +33,6 @@ end-number-spec =
     tie.close
     (tie.spec
     order-number-requires
-    add-reach-number
     reach-number-requires
     first-of-requires
     returns)
