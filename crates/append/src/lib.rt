@@ -41,11 +41,11 @@ pub fn first_of(a: u32, b: u32) -> u32
 fn room_number(at: u32, size: usize, room: usize) -> u32
     ensures { λ r. ⌜ r ≡ roomNumber at size room ⌝ }
 {
-    if 16777216 < size {
+    if fixed::MOST < size {
         return 2;
     }
     let stop = at as usize + size;
-    if 16777216 < stop {
+    if fixed::MOST < stop {
         return 2;
     }
     if room < stop {

@@ -12,11 +12,11 @@ use borrow.Author.Tests.{ltb-false, eq-eqb, ne-eqb}
 use Rattle.words.specs.Pick.{pick}
 use Rattle.words.specs.Words.{bytes, outside}
 use Rattle.words.proofs.Words.{number-bytes}
-use Rattle.fixed.specs.Layout.{indivAt, chromAt, posAt, rlenAt, countsAt, peopleAt, qualAt, idAt, field, posWrong, rlenWrong, peopleWrong, qualWrong}
+use Rattle.fixed.specs.Layout.{indivAt, chromAt, posAt, rlenAt, countsAt, peopleAt, qualAt, idAt, countsOf, membersOf, field, posWrong, rlenWrong, peopleWrong, qualWrong}
 use Rattle.fixed.specs.declared.Facts.{Facts}
 use Rattle.fixed.specs.declared.Site.{Site}
 use Rattle.record.specs.Shown.{Shown}
-use Rattle.front.specs.Front.{fieldsNumber, frontBytes}
+use Rattle.front.specs.Front.{fieldsNumber, frontBytes, fieldsFilled}
 use Rattle.fixed.proofs.Fits.{Fits}
 use Rattle.built.specs.Records.{siteBytes, genotypeBytes, filledFront, recordBytes, Keeps}
 
@@ -38,7 +38,7 @@ siteFor people r =
 
 -- the front has 32 bytes, the record those of its blocks more
 length-filledFront : (people : ℕ) (r : Shown) → length (filledFront people r) ≡ idAt
-unfolding filledFront frontBytes bytes
+unfolding filledFront frontBytes fieldsFilled bytes
 length-filledFront people r = refl
 
 pub length-recordBytes : (people : ℕ) (r : Shown) → length (recordBytes people r) ≡ idAt + length (siteBytes r) + length (genotypeBytes r)
@@ -46,33 +46,40 @@ unfolding recordBytes
 length-recordBytes people r =
     rw (length-append (filledFront people r), length-filledFront people r, length-append (siteBytes r) (genotypeBytes r)) (omega arith)
 
+-- where the record's genotype block begins and ends
+abbrev borderFor : Shown → ℕ
+borderFor r = idAt + length (siteBytes r)
+
+abbrev endFor : Shown → ℕ
+endFor r = borderFor r + length (genotypeBytes r)
+
 -- its fields, whatever follows them
 record Fields (people : ℕ) (r : Shown) (s : List ℕ) : Type 0 where
-  site : field 0 s ≡ idAt - 8 + length (siteBytes r)
-  indiv : field indivAt s ≡ length (genotypeBytes r)
+  site : field 0 s ≡ borderFor r - 8
+  indiv : field indivAt s ≡ endFor r - borderFor r
   chrom : field chromAt s ≡ r .chrom
   pos : field posAt s ≡ r .pos
   rlen : field rlenAt s ≡ r .rlen
   qual : field qualAt s ≡ r .qual
-  counts : field countsAt s ≡ length (r .alleles) * 65536 + length (r .infos)
-  members : field peopleAt s ≡ length (r .formats) * 16777216 + people
+  counts : field countsAt s ≡ countsOf (length (r .alleles)) (length (r .infos))
+  members : field peopleAt s ≡ membersOf (length (r .formats)) people
 
 fields-front : (people : ℕ) (r : Shown) (m : List ℕ) → (r .chrom < 4294967296) × (r .pos < 4294967296) × (r .rlen < 4294967296) × (r .qual < 4294967296)
-    → idAt - 8 + length (siteBytes r) < 4294967296 → length (genotypeBytes r) < 4294967296
-    → length (r .alleles) * 65536 + length (r .infos) < 4294967296 → length (r .formats) * 16777216 + people < 4294967296
+    → borderFor r - 8 < 4294967296 → endFor r - borderFor r < 4294967296
+    → countsOf (length (r .alleles)) (length (r .infos)) < 4294967296 → membersOf (length (r .formats)) people < 4294967296
     → Fields people r (filledFront people r ++ m)
-unfolding filledFront frontBytes field bytes
+unfolding filledFront frontBytes fieldsFilled field bytes
 fields-front people r m b h i c p =
     let s = filledFront people r ++ m in
     record {
-      site = number-bytes 4 (idAt - 8 + length (siteBytes r)) (drop 4 s) h;
-      indiv = number-bytes 4 (length (genotypeBytes r)) (drop (indivAt + 4) s) i;
+      site = number-bytes 4 (borderFor r - 8) (drop 4 s) h;
+      indiv = number-bytes 4 (endFor r - borderFor r) (drop (indivAt + 4) s) i;
       chrom = number-bytes 4 (r .chrom) (drop (chromAt + 4) s) (b .0);
       pos = number-bytes 4 (r .pos) (drop (posAt + 4) s) (b .1);
       rlen = number-bytes 4 (r .rlen) (drop (rlenAt + 4) s) (b .2);
       qual = number-bytes 4 (r .qual) (drop (qualAt + 4) s) (b .3);
-      counts = number-bytes 4 (length (r .alleles) * 65536 + length (r .infos)) (drop (countsAt + 4) s) c;
-      members = number-bytes 4 (length (r .formats) * 16777216 + people) (drop (peopleAt + 4) s) p;
+      counts = number-bytes 4 (countsOf (length (r .alleles)) (length (r .infos))) (drop (countsAt + 4) s) c;
+      members = number-bytes 4 (membersOf (length (r .formats)) people) (drop (peopleAt + 4) s) p;
     }
 
 -- the rules of the fixed fields: none gives 5

@@ -10,7 +10,7 @@ use lib.Seq.{sets, length-sets, set-append-left}
 use Rattle.words.specs.Words.{bytes}
 use Rattle.words.proofs.Words.{length-bytes}
 use Rattle.stores.proofs.Inside.{sets-inside}
-use Rattle.fixed.specs.Layout.{indivAt, countsAt, peopleAt, idAt}
+use Rattle.fixed.specs.Layout.{indivAt, countsAt, peopleAt, idAt, countsOf, membersOf}
 use Rattle.fixed.specs.declared.Facts.{Facts}
 use Rattle.record.specs.Shown.{Shown, integers, Field}
 use Rattle.build.specs.Order.{rank}
@@ -113,19 +113,16 @@ fill-front buf front tail a b c d e h =
 abbrev standing : Facts → Shown → Stage → Builder
 standing f r s = stands f s (length (sited r)) (wholly r) (length (r .alleles)) (length (r .infos)) (keysOf (r .formats))
 
-length-genotypes : (r : Shown) → length (wholly r) - length (sited r) ≡ length (genotypeBytes r)
-unfolding genotypeBytes
-length-genotypes r = let m = length-append (sited r) (joined fieldBytes (r .formats)) in omega arith
-
 filledIn-record : (f : Facts) (r : Shown) (s : Stage) (buf : List ℕ) → length (wholly r) ≤ length buf
     → filledIn (standing f r s) (sets buf 0 (wholly r)) ≡ sets buf 0 (recordBytes (f .people) r)
 unfolding filledIn fieldsFilled filledFront recordBytes
 filledIn-record f r s buf h =
-    let n = length-sited r in
-    let site : length (sited r) - 8 ≡ idAt - 8 + length (siteBytes r) = omega arith in
-    rw (site, length-genotypes r, length-keysOf (r .formats), wholly-blocks r)
-    (fill-front buf (fronted r) (siteBytes r ++ genotypeBytes r) (idAt - 8 + length (siteBytes r)) (length (genotypeBytes r))
-    (length (r .alleles) * 65536 + length (r .infos)) (length (r .formats) * 16777216 + f .people)
+    let border = idAt + length (siteBytes r) in
+    let at = border + length (genotypeBytes r) in
+    let n : length (wholly r) ≡ at = length-wholly (f .people) r ∙ length-recordBytes (f .people) r in
+    rw (n, length-sited r, length-keysOf (r .formats), wholly-blocks r)
+    (fill-front buf (fronted r) (siteBytes r ++ genotypeBytes r) (border - 8) (at - border)
+    (countsOf (length (r .alleles)) (length (r .infos))) (membersOf (length (r .formats)) (f .people))
     (length-frontBytes (r .chrom) (r .pos) (r .rlen) (r .qual)) (rw (wholly-blocks r) at h))
 
 -- a run that writes a record: the state at its end, and the buffer, which begins with the record and is otherwise as it was

@@ -10,13 +10,13 @@ use lib.Seq.{sets}
 use Rattle.words.specs.Lists.{among}
 use Rattle.words.specs.Words.{bytes}
 use Rattle.vectors.specs.Sound.{mostOf}
-use Rattle.fixed.specs.Layout.{indivAt, countsAt, peopleAt, idAt, mostBytes}
+use Rattle.fixed.specs.Layout.{idAt, mostBytes}
 use Rattle.fixed.specs.declared.Facts.{Facts}
 use Rattle.genotypes.specs.Formats.{roleOf}
 use Rattle.record.specs.Shown.{Shown, Kind, integers, floats, text, Elements, Pair, Field}
 use Rattle.given.specs.Given.{filtersNumber, alleleNumber}
 use Rattle.append.specs.Values.{givenBytes, pairBytes}
-use Rattle.front.specs.Front.{fieldsNumber, frontBytes}
+use Rattle.front.specs.Front.{fieldsNumber, frontBytes, fieldsFilled}
 use Rattle.rules.specs.Rules.{keyNumber}
 use Rattle.rules.specs.Values.{any, givenAs, givenNumber}
 use Rattle.build.specs.Turns.{isIntegers}
@@ -48,9 +48,9 @@ genotypeBytes r = joined fieldBytes (r .formats)
 -- the first bytes with both block lengths and both count fields filled in
 unfoldable pub filledFront : ℕ → Shown → List ℕ
 filledFront people r =
-    sets (sets (sets (sets (frontBytes (r .chrom) (r .pos) (r .rlen) (r .qual)) 0 (bytes 4 (idAt - 8 + length (siteBytes r))))
-    indivAt (bytes 4 (length (genotypeBytes r)))) countsAt (bytes 4 (length (r .alleles) * 65536 + length (r .infos))))
-    peopleAt (bytes 4 (length (r .formats) * 16777216 + people))
+    let border = idAt + length (siteBytes r) in
+    fieldsFilled border (border + length (genotypeBytes r)) (length (r .alleles)) (length (r .infos)) (length (r .formats)) people
+    (frontBytes (r .chrom) (r .pos) (r .rlen) (r .qual))
 
 -- a whole record
 unfoldable pub recordBytes : ℕ → Shown → List ℕ

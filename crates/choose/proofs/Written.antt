@@ -14,7 +14,7 @@ use Rattle.words.proofs.Places.{length-part}
 use Rattle.words.proofs.Stores.{sets-append}
 use Rattle.types.specs.Rows.{widthOf}
 use Rattle.types.specs.declared.Use.the-variants.{Format}
-use Rattle.fixed.specs.Layout.{indivAt, peopleAt, idAt}
+use Rattle.fixed.specs.Layout.{indivAt, peopleAt, idAt, membersOf}
 use Rattle.fixed.specs.declared.Site.{Site}
 use Rattle.fetch.specs.Fetch.{paired}
 use Rattle.fetch.specs.declared.Found.the-variants.{Field}
@@ -71,7 +71,7 @@ field-stored buf o people cs n at s {t = t} {len = len} {first = first} {stop = 
 -- the site block, the two numbers in it and the genotype block, stored one after the other, are the chosen record stored
 pub record-stored : (buf s : List ℕ) (t : Site) (cs : List ℕ) → idAt ≤ t .border → t .border ≤ length s
     → t .border + length (chosenBlock t cs s) ≤ length buf
-    → sets (filled (filled (filled buf 0 (take (t .border) s)) indivAt (bytes 4 (length (chosenBlock t cs s)))) peopleAt (bytes 4 (keptFormats cs (t .formats) * 16777216 + length cs)))
+    → sets (filled (filled (filled buf 0 (take (t .border) s)) indivAt (bytes 4 (length (chosenBlock t cs s)))) peopleAt (bytes 4 (membersOf (keptFormats cs (t .formats)) (length cs))))
     (t .border) (chosenBlock t cs s)
     ≡ sets buf 0 (chosenRecord t cs s)
 unfolding chosenRecord chosenSite
@@ -79,7 +79,7 @@ record-stored buf s t cs h e r =
     let front = take (t .border) s in
     let block = chosenBlock t cs s in
     let indiv = bytes 4 (length block) in
-    let people = bytes 4 (keptFormats cs (t .formats) * 16777216 + length cs) in
+    let people = bytes 4 (membersOf (keptFormats cs (t .formats)) (length cs)) in
     let one = sets front indivAt indiv in
     let two = sets one peopleAt people in
     let len : length front ≡ t .border = length-take-le (t .border) s e in

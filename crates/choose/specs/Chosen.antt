@@ -8,7 +8,7 @@ use lib.Seq.{sets}
 use Rattle.words.specs.Words.{bytes}
 use Rattle.types.specs.Rows.{widthOf}
 use Rattle.types.specs.declared.Use.the-variants.{Format}
-use Rattle.fixed.specs.Layout.{indivAt, peopleAt}
+use Rattle.fixed.specs.Layout.{indivAt, peopleAt, membersOf}
 use Rattle.fixed.specs.declared.Site.{Site}
 use Rattle.fetch.specs.Fetch.{paired}
 use Rattle.fetch.specs.declared.Found.{Found}
@@ -38,7 +38,7 @@ chosenBlock t cs s = chosenFields (t .people) cs (keptFormats cs (t .formats)) (
 -- the site block with the lengths before it, l_indiv and the people count changed
 unfoldable pub chosenSite : Site → List ℕ → ℕ → List ℕ → List ℕ
 chosenSite t cs indiv s =
-    sets (sets (take (t .border) s) indivAt (bytes 4 indiv)) peopleAt (bytes 4 (keptFormats cs (t .formats) * 16777216 + length cs))
+    sets (sets (take (t .border) s) indivAt (bytes 4 indiv)) peopleAt (bytes 4 (membersOf (keptFormats cs (t .formats)) (length cs)))
 
 unfoldable pub chosenRecord : Site → List ℕ → List ℕ → List ℕ
 chosenRecord t cs s = let block = chosenBlock t cs s in chosenSite t cs (length block) s ++ block

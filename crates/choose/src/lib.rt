@@ -156,7 +156,7 @@ fn put_record(buf: &mut [u8], s: &[u8], site: Site, choice: &[u32], size: usize)
         buf,
         fixed::PEOPLE,
         4,
-        count as u32 * 16777216 + choice.len() as u32,
+        count as u32 * fixed::FORMAT + choice.len() as u32,
     );
     put_fields(
         buf,

@@ -9,7 +9,7 @@ use lib.Seq.{take-length, sets}
 use Rattle.words.specs.Words.{bytes}
 use Rattle.words.proofs.Words.{length-bytes}
 use Rattle.types.specs.Rows.{widthOf}
-use Rattle.fixed.specs.Layout.{indivAt, peopleAt}
+use Rattle.fixed.specs.Layout.{indivAt, peopleAt, membersOf}
 use Rattle.fixed.specs.declared.Facts.{Facts}
 use Rattle.fixed.specs.declared.Site.{Site}
 use Rattle.genotypes.specs.declared.Gt.{Gt}
@@ -93,8 +93,8 @@ unfolding chosenSite
 site-again t cs ds s indiv b q =
     let e : take (t .border) (chosenRecord t cs s) ≡ chosenSite t cs (length (chosenBlock t cs s)) s = take-chosenRecord t cs s b in
     rw (e, kept-composed cs ds (t .formats) q, length-map ds (λ d. getD cs d 0))
-    (stores-again (take (t .border) s) (length (chosenBlock t cs s)) (keptFormats cs (t .formats) * 16777216 + length cs) indiv
-    (keptFormats (composed cs ds) (t .formats) * 16777216 + length ds))
+    (stores-again (take (t .border) s) (length (chosenBlock t cs s)) (membersOf (keptFormats cs (t .formats)) (length cs)) indiv
+    (membersOf (keptFormats (composed cs ds) (t .formats)) (length ds)))
 
 -- choosing from a chosen record is choosing once from the record
 pub chosenRecord-composed : (f : Facts) (s : List ℕ) (t : Site) (g : Gt) (cs ds : List ℕ) → reading f s ≡ Accepted t g

@@ -7,7 +7,7 @@ use native.Mathlib.Omega.{arith}
 use lib.ListN.{length, take, drop}
 use Rattle.types.specs.Rows.{widthOf}
 use Rattle.types.specs.declared.Use.the-variants.{Format}
-use Rattle.fixed.specs.Layout.{indivAt, peopleAt, idAt, field}
+use Rattle.fixed.specs.Layout.{indivAt, peopleAt, idAt, membersOf, field}
 use Rattle.fixed.specs.declared.Facts.{Facts}
 use Rattle.fixed.specs.declared.Site.{Site}
 use Rattle.genotypes.specs.Formats.{formats, noneOver}
@@ -71,7 +71,7 @@ pub record Opened (f : Facts) (s : List ℕ) (t : Site) : Type 0 where
   pub bordered : t .border ≤ t .length
   pub inside : t .length ≤ length s
   pub indiv : field indivAt s ≡ t .length - t .border
-  pub members : field peopleAt s ≡ t .formats * 16777216 + t .people
+  pub members : field peopleAt s ≡ membersOf (t .formats) (t .people)
   pub given : t .people ≡ f .people
   pub nobody : t .people ≡ 0 → t .formats ≡ 0
 

@@ -12,7 +12,7 @@ use borrow.Author.Tests.{ltb-false, eqb-true, eq-eqb, ne-eqb}
 use Rattle.words.specs.Pick.{pick}
 use Rattle.words.specs.Words.{bytes, Bytes}
 use Rattle.words.proofs.Words.{length-bytes}
-use Rattle.fixed.specs.Layout.{indivAt, chromAt, posAt, rlenAt, countsAt, peopleAt, qualAt, idAt, field, peopleWrong}
+use Rattle.fixed.specs.Layout.{indivAt, chromAt, posAt, rlenAt, countsAt, peopleAt, qualAt, idAt, membersOf, field, peopleWrong}
 use Rattle.fixed.specs.declared.Facts.{Facts}
 use Rattle.fixed.specs.declared.Site.{Site}
 use Rattle.choose.specs.Chosen.{keptFormats, chosenBlock, chosenSite, chosenRecord}
@@ -26,7 +26,7 @@ use Rattle.chosen.proofs.Stored.{field-take, field-elsewhere, field-sto
 pub drop-chosenSite : (t : Site) (cs : List ℕ) (n : ℕ) (s : List ℕ) → drop idAt (chosenSite t cs n s) ≡ drop idAt (take (t .border) s)
 unfolding chosenSite
 drop-chosenSite t cs n s =
-    let members = keptFormats cs (t .formats) * 16777216 + length cs in
+    let members = membersOf (keptFormats cs (t .formats)) (length cs) in
     let l = take (t .border) s in
     let a = length-bytes 4 n in
     let b = length-bytes 4 members in
@@ -37,7 +37,7 @@ field-chosenSite : (t : Site) (cs : List ℕ) (n : ℕ) (s : List ℕ) (p : ℕ)
     → p + 4 ≤ t .border → field p (chosenSite t cs n s) ≡ field p s
 unfolding chosenSite
 field-chosenSite t cs n s p h k e =
-    let members = keptFormats cs (t .formats) * 16777216 + length cs in
+    let members = membersOf (keptFormats cs (t .formats)) (length cs) in
     let l = take (t .border) s in
     let a = length-bytes 4 n in
     let b = length-bytes 4 members in
@@ -48,7 +48,7 @@ indiv-chosenSite : (t : Site) (cs : List ℕ) (n : ℕ) (s : List ℕ) → idAt 
     → field indivAt (chosenSite t cs n s) ≡ n
 unfolding chosenSite
 indiv-chosenSite t cs n s h k b =
-    let members = keptFormats cs (t .formats) * 16777216 + length cs in
+    let members = membersOf (keptFormats cs (t .formats)) (length cs) in
     let l = take (t .border) s in
     let a = length-bytes 4 members in
     let e = length-take-le (t .border) s k in
@@ -56,14 +56,14 @@ indiv-chosenSite t cs n s h k b =
     ∙ field-stored indivAt n l (omega arith) b
 
 people-chosenSite : (t : Site) (cs : List ℕ) (n : ℕ) (s : List ℕ) → idAt ≤ t .border → t .border ≤ length s
-    → keptFormats cs (t .formats) * 16777216 + length cs < 2 ^ 32
-    → field peopleAt (chosenSite t cs n s) ≡ keptFormats cs (t .formats) * 16777216 + length cs
+    → membersOf (keptFormats cs (t .formats)) (length cs) < 2 ^ 32
+    → field peopleAt (chosenSite t cs n s) ≡ membersOf (keptFormats cs (t .formats)) (length cs)
 unfolding chosenSite
 people-chosenSite t cs n s h k b =
     let l = take (t .border) s in
     let a = length-sets l indivAt (bytes 4 n) in
     let e = length-take-le (t .border) s k in
-    field-stored peopleAt (keptFormats cs (t .formats) * 16777216 + length cs) (sets l indivAt (bytes 4 n)) (omega arith) b
+    field-stored peopleAt (membersOf (keptFormats cs (t .formats)) (length cs)) (sets l indivAt (bytes 4 n)) (omega arith) b
 
 -- the chosen record is its site and its genotype block
 pub take-chosenRecord : (t : Site) (cs s : List ℕ) → t .border ≤ length s
@@ -121,7 +121,7 @@ fits-chosenRecord f s t cs b x c n =
     let formats = x .formats in
     let people = x .people in
     let kept = kept-most cs (t .formats) in
-    let members = keptFormats cs (t .formats) * 16777216 + length cs in
+    let members = membersOf (keptFormats cs (t .formats)) (length cs) in
     let small : members < 2 ^ 32 = omega arith in
     let few : size < 2 ^ 32 = omega arith in
     let len = length-chosenRecord t cs s h in

@@ -2,7 +2,7 @@
 use mathlib.Core.Path.{_≡_, refl}
 use mathlib.Core.List.{List}
 use mathlib.Core.Bool.{Bool, true, false}
-use Prim.Native.Nat.{ℕ, _+_, _/_, _%_, _≤_, _<_}
+use Prim.Native.Nat.{ℕ, _+_, _≤_, _<_}
 use native.Mathlib.Omega.{arith}
 use lib.Dec.{ltb, eqb}
 use lib.ListN.{length}
@@ -10,7 +10,7 @@ use borrow.Author.Tests.{ltb-false, le-ltb, eqb-true}
 use Rattle.words.specs.Pick.{pick}
 use Rattle.words.specs.Words.{outside}
 use Rattle.values.specs.declared.Refusal.{Refusal}
-use Rattle.fixed.specs.Layout.{indivAt, chromAt, posAt, rlenAt, countsAt, peopleAt, qualAt, idAt, mostBytes, field, posWrong, rlenWrong, countsWrong, peopleWrong, qualWrong}
+use Rattle.fixed.specs.Layout.{indivAt, chromAt, posAt, rlenAt, countsAt, peopleAt, qualAt, idAt, allelesIn, infosIn, formatsIn, peopleIn, mostBytes, field, posWrong, rlenWrong, countsWrong, peopleWrong, qualWrong}
 use Rattle.fixed.specs.Fixed.{noSite, blocks, wrongAt, siteAt, fields, fixed}
 use Rattle.fixed.specs.declared.Facts.{Facts}
 use Rattle.fixed.specs.declared.Site.{Site}
@@ -30,10 +30,10 @@ pub record Fits (f : Facts) (s : List ℕ) (t : Site) : Type 0 where
   pub pos : field posAt s ≡ t .pos
   pub rlen : field rlenAt s ≡ t .rlen
   pub qual : field qualAt s ≡ t .qual
-  pub alleles : field countsAt s / 65536 ≡ t .alleles
-  pub infos : field countsAt s % 65536 ≡ t .infos
-  pub formats : field peopleAt s / 16777216 ≡ t .formats
-  pub people : field peopleAt s % 16777216 ≡ t .people
+  pub alleles : allelesIn (field countsAt s) ≡ t .alleles
+  pub infos : infosIn (field countsAt s) ≡ t .infos
+  pub formats : formatsIn (field peopleAt s) ≡ t .formats
+  pub people : peopleIn (field peopleAt s) ≡ t .people
   pub chromRight : outside (f .contigs) (t .chrom) ≡ false
   pub posRight : posWrong (t .pos) ≡ false
   pub rlenRight : rlenWrong (t .rlen) ≡ false
@@ -93,8 +93,8 @@ record Right (f : Facts) (s : List ℕ) : Type 0 where
   pos : posWrong (field posAt s) ≡ false
   rlen : rlenWrong (field rlenAt s) ≡ false
   qual : qualWrong (field qualAt s) ≡ false
-  counts : countsWrong (field countsAt s / 65536) ≡ false
-  people : peopleWrong (f .people) (field peopleAt s / 16777216) (field peopleAt s % 16777216) ≡ false
+  counts : countsWrong (allelesIn (field countsAt s)) ≡ false
+  people : peopleWrong (f .people) (formatsIn (field peopleAt s)) (peopleIn (field peopleAt s)) ≡ false
 
 none-wrong : (f : Facts) (s : List ℕ) → wrongAt f s ≡ 0 → Right f s
 unfolding wrongAt
@@ -103,8 +103,8 @@ none-wrong f s h =
     let e2 = passed (posWrong (field posAt s)) posAt _ (omega arith) (e1 .1) in
     let e3 = passed (rlenWrong (field rlenAt s)) rlenAt _ (omega arith) (e2 .1) in
     let e4 = passed (qualWrong (field qualAt s)) qualAt _ (omega arith) (e3 .1) in
-    let e5 = passed (countsWrong (field countsAt s / 65536)) countsAt _ (omega arith) (e4 .1) in
-    let e6 = passed (peopleWrong (f .people) (field peopleAt s / 16777216) (field peopleAt s % 16777216)) peopleAt 0 (omega arith) (e5 .1) in
+    let e5 = passed (countsWrong (allelesIn (field countsAt s))) countsAt _ (omega arith) (e4 .1) in
+    let e6 = passed (peopleWrong (f .people) (formatsIn (field peopleAt s)) (peopleIn (field peopleAt s))) peopleAt 0 (omega arith) (e5 .1) in
     record { chrom = e1 .0; pos = e2 .0; rlen = e3 .0; qual = e4 .0; counts = e5 .0; people = e6 .0 }
 
 wrong-none : (f : Facts) (s : List ℕ) → Right f s → wrongAt f s ≡ 0

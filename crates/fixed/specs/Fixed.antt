@@ -1,5 +1,5 @@
 -- The front of a record: the two lengths, and then the fixed fields in the order of their bytes. Rests on the layout.
-use Prim.Native.Nat.{ℕ, _+_, _/_, _%_, _≤_}
+use Prim.Native.Nat.{ℕ, _+_, _≤_}
 use mathlib.Core.List.{List}
 use lib.Dec.{ltb, leb, eqb}
 use lib.ListN.{length}
@@ -7,7 +7,7 @@ use Rattle.words.specs.Pick.{pick}
 use Rattle.words.specs.Words.{outside}
 use Rattle.values.specs.Answers.{refusal}
 use Rattle.values.specs.declared.Refusal.{Refusal}
-use Rattle.fixed.specs.Layout.{indivAt, chromAt, posAt, rlenAt, countsAt, peopleAt, qualAt, idAt, mostBytes, field, posWrong, rlenWrong, countsWrong, peopleWrong, qualWrong}
+use Rattle.fixed.specs.Layout.{indivAt, chromAt, posAt, rlenAt, countsAt, peopleAt, qualAt, idAt, allelesIn, infosIn, formatsIn, peopleIn, mostBytes, field, posWrong, rlenWrong, countsWrong, peopleWrong, qualWrong}
 use Rattle.fixed.specs.declared.Facts.{Facts}
 use Rattle.fixed.specs.declared.Site.{Site}
 use Rattle.fixed.specs.declared.Blocks.{Blocks}
@@ -46,8 +46,8 @@ wrongAt f s =
     (pick (posWrong (field posAt s)) posAt
     (pick (rlenWrong (field rlenAt s)) rlenAt
     (pick (qualWrong (field qualAt s)) qualAt
-    (pick (countsWrong (field countsAt s / 65536)) countsAt
-    (pick (peopleWrong (f .people) (members / 16777216) (members % 16777216)) peopleAt
+    (pick (countsWrong (allelesIn (field countsAt s))) countsAt
+    (pick (peopleWrong (f .people) (formatsIn members) (peopleIn members)) peopleAt
     0)))))
 
 -- what the fixed fields say, of a record that has its blocks there
@@ -60,10 +60,10 @@ siteAt border whole s =
       pos = field posAt s;
       rlen = field rlenAt s;
       qual = field qualAt s;
-      alleles = field countsAt s / 65536;
-      infos = field countsAt s % 65536;
-      formats = field peopleAt s / 16777216;
-      people = field peopleAt s % 16777216;
+      alleles = allelesIn (field countsAt s);
+      infos = infosIn (field countsAt s);
+      formats = formatsIn (field peopleAt s);
+      people = peopleIn (field peopleAt s);
     }
 
 -- the first fixed field that breaks its rule gives 5 at its place

@@ -1,5 +1,5 @@
 -- The layout of a record's front: the place of each fixed field, and the rule that each keeps. Rests on words' numbers.
-use Prim.Native.Nat.{ℕ, _+_}
+use Prim.Native.Nat.{ℕ, _+_, _*_, _/_, _%_}
 use mathlib.Core.List.{List}
 use mathlib.Core.Bool.{Bool, true, false}
 use lib.Dec.{ltb, leb, eqb}
@@ -35,6 +35,25 @@ idAt = 32
 -- of the fields that are filled in last, both block lengths and both counts, the last ends before here
 abbrev pub filledTo : ℕ
 filledTo = peopleAt + 4
+
+-- two counts in one field: alleles above INFO fields, FORMAT fields above people
+abbrev pub countsOf : ℕ → ℕ → ℕ
+countsOf alleles infos = alleles * 65536 + infos
+
+abbrev pub allelesIn : ℕ → ℕ
+allelesIn counts = counts / 65536
+
+abbrev pub infosIn : ℕ → ℕ
+infosIn counts = counts % 65536
+
+abbrev pub membersOf : ℕ → ℕ → ℕ
+membersOf formats people = formats * 16777216 + people
+
+abbrev pub formatsIn : ℕ → ℕ
+formatsIn members = members / 16777216
+
+abbrev pub peopleIn : ℕ → ℕ
+peopleIn members = members % 16777216
 
 -- the most bytes of a record
 abbrev pub mostBytes : ℕ

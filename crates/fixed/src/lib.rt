@@ -62,6 +62,14 @@ pub const PEOPLE: usize = 28;
 // Of the fields that are filled in last, both block lengths and both counts, the last ends before here.
 pub const FILLED: usize = PEOPLE + 4;
 
+// Two counts in one field: what one allele counts above the INFO fields, and one FORMAT field above the people.
+pub const ALLELE: u32 = 65536;
+
+pub const FORMAT: u32 = 16777216;
+
+// The most bytes of a record.
+pub const MOST: usize = 16777216;
+
 // The four bytes at a place as a number.
 fn field_at(s: &[u8], at: usize) -> u32
     ensures { λ r. ⌜ r ≡ field at (now (s .entry)) ⌝ }
@@ -82,7 +90,7 @@ pub fn blocks_of(s: &[u8]) -> Blocks
     }
     let border = 8 + field_at(s, 0) as usize;
     let length = border + field_at(s, INDIV) as usize;
-    if 16777216 < length {
+    if MOST < length {
         return Blocks::Refused(Refusal {
             number: 2,
             place: 0,
@@ -168,11 +176,11 @@ fn wrong_at(s: &[u8], facts: Facts) -> usize
     if qual_wrong(field_at(s, QUAL)) {
         return QUAL;
     }
-    if field_at(s, COUNTS) / 65536 == 0 {
+    if field_at(s, COUNTS) / ALLELE == 0 {
         return COUNTS;
     }
     let members = field_at(s, PEOPLE);
-    if people_wrong(facts.people, members / 16777216, members % 16777216) {
+    if people_wrong(facts.people, members / FORMAT, members % FORMAT) {
         return PEOPLE;
     }
     0
@@ -191,10 +199,10 @@ fn site_at(s: &[u8], border: usize, length: usize) -> Site
         pos: field_at(s, POS),
         rlen: field_at(s, RLEN),
         qual: field_at(s, QUAL),
-        alleles: (counts / 65536) as u16,
-        infos: (counts % 65536) as u16,
-        formats: (members / 16777216) as u8,
-        people: members % 16777216,
+        alleles: (counts / ALLELE) as u16,
+        infos: (counts % ALLELE) as u16,
+        formats: (members / FORMAT) as u8,
+        people: members % FORMAT,
     }
 }
 

@@ -11,7 +11,7 @@ use Rattle.words.proofs.Words.{length-bytes}
 use Rattle.stores.specs.Stores.{filled}
 use Rattle.stores.proofs.Inside.{filled-inside}
 use Rattle.stores.proofs.Room.{filled-room, filled-short}
-use Rattle.fixed.specs.Layout.{indivAt, chromAt, posAt, rlenAt, countsAt, peopleAt, qualAt, idAt, filledTo}
+use Rattle.fixed.specs.Layout.{indivAt, chromAt, posAt, rlenAt, countsAt, peopleAt, qualAt, idAt, filledTo, countsOf, membersOf}
 use Rattle.front.specs.Front.{frontBytes, fieldsFilled}
 
 -- a number stored in the first bytes, which stand at the buffer's start
@@ -73,14 +73,14 @@ number-room : (buf : List ℕ) (i v : ℕ) → i + 4 ≤ length buf → filled b
 number-room buf i v h = filled-room buf i (bytes 4 v) (rw (length-bytes 4 v) h)
 
 pub fields-stored : (buf : List ℕ) (border at alleles infos formats people : ℕ) → filledTo ≤ length buf
-    → filled (filled (filled (filled buf 0 (bytes 4 (border - 8))) indivAt (bytes 4 (at - border))) countsAt (bytes 4 (alleles * 65536 + infos)))
-    peopleAt (bytes 4 ((formats * 16777216 + people) % 4294967296))
+    → filled (filled (filled (filled buf 0 (bytes 4 (border - 8))) indivAt (bytes 4 (at - border))) countsAt (bytes 4 (countsOf alleles infos)))
+    peopleAt (bytes 4 ((membersOf formats people) % 4294967296))
     ≡ fieldsFilled border at alleles infos formats people buf
 unfolding fieldsFilled
 fields-stored buf border at alleles infos formats people h =
     let shared = border - 8 in
     let indiv = at - border in
-    let counts = alleles * 65536 + infos in
+    let counts = countsOf alleles infos in
     let one = sets buf 0 (bytes 4 shared) in
     let two = sets one indivAt (bytes 4 indiv) in
     let three = sets two countsAt (bytes 4 counts) in
@@ -88,9 +88,9 @@ fields-stored buf border at alleles infos formats people h =
     let l₂ : length two ≡ length buf = length-sets one indivAt (bytes 4 indiv) ∙ l₁ in
     let l₃ : length three ≡ length buf = length-sets two countsAt (bytes 4 counts) ∙ l₂ in
     rw (
-      bytes-low (formats * 16777216 + people),
+      bytes-low (membersOf formats people),
       number-room buf 0 shared (omega arith),
       number-room one indivAt indiv (omega arith),
       number-room two countsAt counts (omega arith),
-      number-room three peopleAt (formats * 16777216 + people) (omega arith),
+      number-room three peopleAt (membersOf formats people) (omega arith),
     )

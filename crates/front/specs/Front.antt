@@ -1,12 +1,12 @@
 -- The fixed fields as they are written: their rules, the first bytes, and what is filled in last. Rests on the layout.
-use Prim.Native.Nat.{ℕ, _+_, _-_, _*_}
+use Prim.Native.Nat.{ℕ, _-_}
 use mathlib.Core.List.{List}
 use lib.Dec.{ltb}
 use lib.ListN.{replicate}
 use lib.Seq.{sets}
 use Rattle.words.specs.Pick.{pick}
 use Rattle.words.specs.Words.{bytes, outside}
-use Rattle.fixed.specs.Layout.{indivAt, chromAt, posAt, rlenAt, countsAt, peopleAt, qualAt, idAt, posWrong, rlenWrong, qualWrong}
+use Rattle.fixed.specs.Layout.{indivAt, chromAt, posAt, rlenAt, countsAt, peopleAt, qualAt, idAt, countsOf, membersOf, posWrong, rlenWrong, qualWrong}
 use Rattle.fixed.specs.declared.Facts.{Facts}
 
 -- 5 for a fixed field that breaks its rule, or more people than a record can hold
@@ -28,4 +28,4 @@ frontBytes chrom pos rlen qual =
 unfoldable pub fieldsFilled : ℕ → ℕ → ℕ → ℕ → ℕ → ℕ → List ℕ → List ℕ
 fieldsFilled border at alleles infos formats people buf =
     sets (sets (sets (sets buf 0 (bytes 4 (border - 8))) indivAt (bytes 4 (at - border)))
-    countsAt (bytes 4 (alleles * 65536 + infos))) peopleAt (bytes 4 (formats * 16777216 + people))
+    countsAt (bytes 4 (countsOf alleles infos))) peopleAt (bytes 4 (membersOf formats people))

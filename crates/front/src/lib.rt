@@ -82,8 +82,8 @@ pub fn fill_in(
     }
     let shared = less(border, 8);
     let indiv = less(at, border);
-    let counts = alleles as u32 * 65536 + infos as u32;
-    let members = low(formats as u64 * 16777216 + people as u64);
+    let counts = alleles as u32 * fixed::ALLELE + infos as u32;
+    let members = low(formats as u64 * fixed::FORMAT as u64 + people as u64);
     stores::put_number(buf, 0, 4, shared);
     stores::put_number(buf, fixed::INDIV, 4, indiv);
     stores::put_number(buf, fixed::COUNTS, 4, counts);

@@ -27,7 +27,7 @@ use Rattle.frames.specs.Frames.{callNumbers, acceptedLine, recordLine}
 use Rattle.encode.specs.Encode.{integerBytes, descriptorBytes, widest, markedAs, narrowed, elementsBytes, valueBytes}
 use Rattle.given.specs.Given.{vectorsGiven, elementsNumber, filtersNumber, alleleNumber}
 use Rattle.append.specs.Values.{givenBytes, pairBytes}
-use Rattle.front.specs.Front.{fieldsNumber, frontBytes}
+use Rattle.front.specs.Front.{fieldsNumber, frontBytes, fieldsFilled}
 use Rattle.rules.specs.Rules.{keyNumber}
 use Rattle.rules.specs.Values.{givenNumber}
 use Rattle.built.specs.Records.{joined, siteBytes, genotypeBytes, filledFront, recordBytes, Keeps}
@@ -36,7 +36,7 @@ use Rattle.laws.specs.Sample.{Sample, facts, sample, sampleShown}
 
 -- what it shows keeps the rules, and is written as its bytes
 sample-bytes : recordBytes (facts .people) sampleShown ≡ sample
-unfolding sample bytes rowOf widthOf kind marked narrowest integerBytes descriptorBytes widest markedAs narrowed elementsBytes valueBytes givenBytes pairBytes frontBytes joined siteBytes genotypeBytes filledFront recordBytes
+unfolding sample bytes rowOf widthOf kind marked narrowest integerBytes descriptorBytes widest markedAs narrowed elementsBytes valueBytes givenBytes pairBytes frontBytes fieldsFilled joined siteBytes genotypeBytes filledFront recordBytes
 sample-bytes = refl
 
 sample-keeps : Keeps facts sampleShown

@@ -32,6 +32,10 @@ add-counts : tie.Need-add-counts
 add-counts c = search needs
 
 -- src/lib.rt:86:23
+cast-low : tie.Need-cast-low
+cast-low c = search needs
+
+-- src/lib.rt:86:23
 mul-low : tie.Need-mul-low
 mul-low c = search needs
 
@@ -82,6 +86,7 @@ fill-in-spec =
     less-requires-2
     mul-counts
     add-counts
+    cast-low
     mul-low
     add-low
     low-requires
