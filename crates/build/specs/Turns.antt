@@ -1,14 +1,14 @@
 -- The turns of a builder: for each the number of what is wrong, in 01's order 12, 5, 8, 11, 6, 7, then 9 and 10 by element; the bytes that
 -- it writes, and the state after it. Rests on the order of turns and on values as they are given.
-use Prim.Native.Nat.{ℕ, _+_, _-_, _*_}
-use mathlib.Core.List.{List, []}
+use Prim.Native.Nat.{ℕ, _+_}
+use mathlib.Core.List.{List}
 use mathlib.Core.Bool.{Bool, true, false}
-use lib.Dec.{ltb, leb, eqb}
+use lib.Dec.{eqb}
 use lib.ListN.{length, take, set, replicate}
 use lib.Seq.{sets}
 use Rattle.words.specs.Pick.{pick}
 use Rattle.vectors.specs.Sound.{mostOf}
-use Rattle.fixed.specs.Layout.{peopleAt, idAt}
+use Rattle.fixed.specs.Layout.{idAt}
 use Rattle.fixed.specs.declared.Facts.{Facts}
 use Rattle.genotypes.specs.Formats.{roleOf}
 use Rattle.record.specs.Shown.{Kind, integers, floats, text}

@@ -3,17 +3,15 @@
 use Prim.Native.Nat.{ℕ, _+_, _-_, _*_, _<_, _≤_}
 use mathlib.Core.Path.{_≡_}
 use mathlib.Core.List.{List, [], _∷_, _++_}
-use mathlib.Core.Bool.{Bool, true, false}
+use mathlib.Core.Bool.{true, false}
 use lib.Dec.{eqb}
 use lib.ListN.{length}
-use lib.Seq.{sets}
 use Rattle.words.specs.Lists.{among}
-use Rattle.words.specs.Words.{bytes}
 use Rattle.vectors.specs.Sound.{mostOf}
 use Rattle.fixed.specs.Layout.{idAt, mostBytes}
 use Rattle.fixed.specs.declared.Facts.{Facts}
 use Rattle.genotypes.specs.Formats.{roleOf}
-use Rattle.record.specs.Shown.{Shown, Kind, integers, floats, text, Elements, Pair, Field}
+use Rattle.record.specs.Shown.{Shown, Kind, integers, floats, text, Pair, Field}
 use Rattle.given.specs.Given.{filtersNumber, alleleNumber}
 use Rattle.append.specs.Values.{givenBytes, pairBytes}
 use Rattle.front.specs.Front.{fieldsNumber, frontBytes, fieldsFilled}

@@ -1,7 +1,7 @@
 -- The elements of a part, by index: how each is shown, and what a code of GT says. Rests on types.
 use Prim.Native.Nat.{ℕ, _-_, _*_, _/_, _%_}
 use mathlib.Core.List.{List}
-use mathlib.Core.Bool.{Bool, true, false}
+use mathlib.Core.Bool.{false}
 use lib.Dec.{leb, eqb}
 use lib.ListN.{length, drop}
 use Rattle.words.specs.Pick.{pick}

@@ -16,8 +16,7 @@ use Rattle.fixed.specs.declared.Facts.{Facts}
 use Rattle.fixed.specs.declared.Site.{Site}
 use Rattle.fixed.specs.declared.Blocks.{Blocks}
 use Rattle.fixed.specs.declared.Blocks.the-variants.{Lent, Refused as NoBlocks}
-use Rattle.fixed.specs.declared.Fixed.{Fixed}
-use Rattle.fixed.specs.declared.Fixed.the-variants.{Site as Front, Refused as NoSite}
+use Rattle.fixed.specs.declared.Fixed.the-variants.{Site as Front}
 
 -- a list begins with a record's front whose site is t: where it lies, what its fields say, and that each keeps its rule
 pub record Fits (f : Facts) (s : List ℕ) (t : Site) : Type 0 where

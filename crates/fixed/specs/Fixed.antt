@@ -1,7 +1,7 @@
 -- The front of a record: the two lengths, and then the fixed fields in the order of their bytes. Rests on the layout.
 use Prim.Native.Nat.{ℕ, _+_, _≤_}
 use mathlib.Core.List.{List}
-use lib.Dec.{ltb, leb, eqb}
+use lib.Dec.{ltb, eqb}
 use lib.ListN.{length}
 use Rattle.words.specs.Pick.{pick}
 use Rattle.words.specs.Words.{outside}

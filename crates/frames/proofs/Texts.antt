@@ -1,11 +1,10 @@
 -- Numbers put one after the other are their text put. Rests on specs/Text and on decimal.
 use mathlib.Core.Path.{_≡_, refl, _∙_}
 use mathlib.Core.List.{List, [], _∷_, _++_, append-assoc}
-use Prim.Native.Nat.{ℕ, suc, _+_, _*_, _^_, _<_, _≤_}
+use Prim.Native.Nat.{ℕ, suc, _+_, _<_, _≤_}
 use native.Mathlib.Omega.{arith}
 use native.Mathlib.Numerals.{add-one}
-use native.Mathlib.Nat.{add-assoc}
-use lib.ListN.{length, getD, set, drop, length-append, length-set}
+use lib.ListN.{length, getD, set, drop, length-append}
 use lib.Seq.{sets, drop-cons}
 use borrow.Author.Tests.{le-ltb}
 use Rattle.words.proofs.Stores.{sets-append}

@@ -5,7 +5,6 @@ use lib.Dec.{ltb, eqb}
 use lib.ListN.{length, getD, take, drop}
 use Rattle.words.specs.Pick.{pick}
 use Rattle.stores.specs.Stores.{filled}
-use Rattle.fixed.specs.declared.Facts.{Facts}
 use Rattle.build.specs.Order.{rank}
 use Rattle.build.specs.Turns.{freshState, movedTo}
 use Rattle.build.specs.declared.Stage.{Stage}

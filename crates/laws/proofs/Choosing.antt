@@ -1,5 +1,5 @@
 -- Demand 3, proved: each law cites the file of `chosen` that did the work. Rests on specs/Choosing.
-use mathlib.Core.Path.{_≡_, _∙_, ap}
+use mathlib.Core.Path.{_≡_, ap}
 use mathlib.Core.List.{List}
 use Prim.Native.Nat.{ℕ, _≤_}
 use lib.ListN.{length, take}
@@ -23,7 +23,7 @@ use Rattle.chosen.proofs.Divided.{tallied-accepted}
 use Rattle.chosen.proofs.Everybody.{chosenRecord-everybody}
 use Rattle.chosen.proofs.Shows.{shownOf-chosenRecord}
 use Rattle.chosen.proofs.Tallies.{tallied-sum}
-use Rattle.laws.specs.Choosing.{Choice, Accepts, AddUp, Choosing}
+use Rattle.laws.specs.Choosing.{Choice, AddUp, Choosing}
 
 -- the tallies of the whole record and of its two parts are counted, and the parts' add up
 add-up : (f : Facts) (s : List ℕ) (t : Site) (g : Gt) (cs ds : List ℕ) → Bytes s → reading f s ≡ Accepted t g → t .alleles ≤ 64

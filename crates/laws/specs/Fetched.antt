@@ -1,6 +1,6 @@
 -- What is fetched of 01's sample record: every field of each kind, and the refusals. Rests on fetch's definitions.
 use mathlib.Core.Path.{_≡_}
-use mathlib.Core.List.{List, [], _∷_}
+use mathlib.Core.List.{[], _∷_}
 use Rattle.values.specs.Answers.{refusal}
 use Rattle.fetch.specs.Fetch.{found, fetched}
 use Rattle.fetch.specs.declared.Kind.the-variants.{Id, Allele, Filter, Info, Format}

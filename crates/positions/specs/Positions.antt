@@ -1,5 +1,5 @@
 -- One-based and zero-based positions. Rests on the language's own reading of 32 bits as a signed number.
-use Prim.Native.Nat.{ℕ, _+_, _%_, _^_}
+use Prim.Native.Nat.{_+_, _%_, _^_}
 use lib.IntN.{ℤ}
 use mir.Syntax.{w32}
 use mir.Val.{toZ, ofZ}

@@ -6,7 +6,6 @@ use lib.Dec.{eqb}
 use lib.ListN.{take, drop}
 use Rattle.words.specs.Pick.{pick}
 use Rattle.types.specs.Rows.{widthOf}
-use Rattle.types.specs.declared.Use.{Use}
 use Rattle.types.specs.declared.Use.the-variants.{Id, Allele, Filter, Info, Format}
 use Rattle.values.specs.Values.{integer, present}
 use Rattle.types.specs.declared.Use.the-variants.{Key}

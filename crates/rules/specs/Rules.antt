@@ -1,6 +1,6 @@
 -- What is wrong with a turn, as the number of its refusal, in 01's order 12, 5, 8, 11, 6, 7, then 9 and 10 by element. How far the build is
 -- counts the last turn taken, in the order begin, ID, allele, FILTER, INFO, FORMAT, end. Rests on append, front and given.
-use Prim.Native.Nat.{ℕ, _+_, _*_}
+use Prim.Native.Nat.{ℕ, _*_}
 use mathlib.Core.List.{List}
 use mathlib.Core.Bool.{Bool}
 use lib.Dec.{ltb, leb, eqb}

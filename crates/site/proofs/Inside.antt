@@ -1,5 +1,5 @@
 -- A step stays in its block: for a value, and for elements that were judged. Rests on specs/Steps.
-use Prim.Native.Nat.{ℕ, _≤_, _<_}
+use Prim.Native.Nat.{ℕ, _≤_}
 use native.Mathlib.Omega.{arith}
 use Rattle.values.specs.Answers.{valueInside}
 use Rattle.values.specs.declared.Value.{Value}

@@ -1,6 +1,6 @@
 -- One turn of the loops over steps and over an allele's bytes, and the end of a block. Rests on specs/Steps and specs/Alleles.
-use mathlib.Core.Path.{_≡_, refl}
-use mathlib.Core.List.{List, [], _∷_}
+use mathlib.Core.Path.{_≡_}
+use mathlib.Core.List.{List}
 use Prim.Native.Nat.{ℕ, zero, suc, _+_, _-_, _<_, _≤_}
 use native.Mathlib.Omega.{arith}
 use native.Mathlib.Numerals.{sub-one}
@@ -14,7 +14,7 @@ use Rattle.vectors.specs.declared.Judged.the-variants.{Sound}
 use Rattle.site.specs.Alleles.{alleleBytes}
 use Rattle.site.specs.Steps.{times, then, ended, noStep}
 use Rattle.site.specs.declared.Step.{Step}
-use Rattle.site.specs.declared.Step.the-variants.{At, Refused}
+use Rattle.site.specs.declared.Step.the-variants.{At}
 
 -- the same step, where some are left
 pub times-turn : (step : ℕ → List ℕ → Step) (s : List ℕ) (n at : ℕ) → 0 < n

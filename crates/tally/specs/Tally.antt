@@ -14,7 +14,6 @@ use Rattle.record.specs.declared.Reading.{Reading}
 use Rattle.record.specs.declared.Reading.the-variants.{Accepted, Refused as Unread}
 use Rattle.calls.specs.Calls.{counted}
 use Rattle.calls.specs.declared.Calls.{Calls}
-use Rattle.tally.specs.declared.Counting.{Counting}
 use Rattle.tally.specs.declared.Counting.the-variants.{Counted, Refused}
 use Rattle.tally.specs.declared.Tallied.{Tallied}
 

@@ -10,13 +10,13 @@ use Rattle.types.specs.Rows.{rowOf, widthOf, allowed}
 use Rattle.types.specs.Elements.{shown}
 use Rattle.types.specs.declared.Use.{Use}
 use Rattle.types.specs.declared.Use.the-variants.{Key, Length}
-use Rattle.values.specs.Answers.{noInteger, one, noDescriptor, typed, noValue, whole, integerRefusal, descriptorRefusal}
+use Rattle.values.specs.Answers.{noInteger, one, noDescriptor, typed, noValue, whole}
 use Rattle.values.specs.declared.Integer.{Integer}
 use Rattle.values.specs.declared.Integer.the-variants.{One, Refused as NoInteger}
 use Rattle.values.specs.declared.Descriptor.{Descriptor}
 use Rattle.values.specs.declared.Descriptor.the-variants.{Typed, Refused as NoDescriptor}
 use Rattle.values.specs.declared.Value.{Value}
-use Rattle.values.specs.declared.Value.the-variants.{Present, Refused as NoValue}
+use Rattle.values.specs.declared.Value.the-variants.{Refused as NoValue}
 
 -- one integer, with a descriptor of its own: its low half a type that the use allows, its high half 1; then its element
 unfoldable pub integer : Use → ℕ → List ℕ → Integer

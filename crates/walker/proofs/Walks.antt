@@ -1,14 +1,11 @@
 -- A walker yields the pairs that fetching numbers, in order. Rests on specs/Walk and on fetching's definitions.
 use mathlib.Core.Path.{_≡_, refl, sym, _∙_, ap}
 use mathlib.Core.List.{List, []}
-use mathlib.Core.Bool.{Bool, true, false}
-use Prim.Native.Nat.{ℕ, zero, suc, _+_, _-_, _/_, _%_, _≤_, _<_}
+use Prim.Native.Nat.{ℕ, zero, suc, _+_, _-_, _≤_, _<_}
 use native.Mathlib.Omega.{arith}
-use lib.Dec.{ltb}
 use lib.ListN.{length, take, drop}
-use borrow.Author.Tests.{le-ltb, lt-leb, ltb-false}
-use Rattle.words.specs.Pick.{pick}
-use Rattle.words.specs.Words.{number, outside}
+use borrow.Author.Tests.{le-ltb, lt-leb}
+use Rattle.words.specs.Words.{number}
 use Rattle.words.proofs.Places.{drop-on}
 use Rattle.types.specs.declared.Use.the-variants.{Key, Info}
 use Rattle.values.specs.Values.{integer, present}
@@ -27,7 +24,7 @@ use Rattle.genotypes.specs.declared.Gt.{Gt}
 use Rattle.record.specs.Reading.{reading, siteOf}
 use Rattle.record.specs.declared.Reading.the-variants.{Accepted}
 use Rattle.record.proofs.Accepted.{accepted, accepted-fits}
-use Rattle.fetched.proofs.Agree.{Went, went, times-passed, info-passed}
+use Rattle.fetched.proofs.Agree.{went, times-passed, info-passed}
 use Rattle.fetched.proofs.Inside.{passing-later, past-later}
 use Rattle.fetched.proofs.There.{site-walk}
 use Rattle.fetch.specs.Fetch.{valueField, afterKey, paired, fieldStep, passing, past, toInfo, toField, fieldIn, fieldOf, found}
@@ -37,7 +34,7 @@ use Rattle.fetch.specs.declared.Found.the-variants.{Field, Refused as NoField}
 use Rattle.walker.specs.Walk.{withValue, withKey, pairIn, pairAt, afterPair, nextAt, walkedTo, asPair, opened}
 use Rattle.walker.specs.declared.Opening.the-variants.{First}
 use Rattle.walker.specs.declared.Pair.{Pair}
-use Rattle.walker.specs.declared.Pair.the-variants.{Found, End}
+use Rattle.walker.specs.declared.Pair.the-variants.{End}
 
 -- a pair is the field that fetching finds there
 value-pair : (key : ℕ) (v : Value) → withValue key v ≡ asPair (valueField key v)

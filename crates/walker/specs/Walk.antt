@@ -8,7 +8,6 @@ use Rattle.words.specs.Pick.{pick}
 use Rattle.words.specs.Words.{number}
 use Rattle.types.specs.declared.Use.the-variants.{Key, Info}
 use Rattle.values.specs.Values.{integer, present}
-use Rattle.values.specs.declared.Refusal.{Refusal}
 use Rattle.values.specs.declared.Integer.{Integer}
 use Rattle.values.specs.declared.Integer.the-variants.{One, Refused as NoInteger}
 use Rattle.values.specs.declared.Value.{Value}

@@ -9,7 +9,7 @@ use lib.Dec.{T}
 use lib.IntN.{ℤ, pos, negsuc, _+ℤ_, _-ℤ_, natAbs}
 use lib.ListN.{getD, List·getD-map}
 use lib.Signed.{mag, leZ, nonNeg}
-use mir.Syntax.{Width, w32, w64}
+use mir.Syntax.{w32, w64}
 use mir.Facts.{toZ-ofZ, sfits-widen}
 use mir.Val.{toZ, ofZ, SFits, Fits}
 

@@ -1,9 +1,9 @@
 -- Laws of little-endian numbers, over the width. Rests on the definitions of specs/Words.
-use mathlib.Core.Path.{_≡_, refl, _∙_, ap, sym}
+use mathlib.Core.Path.{_≡_, refl, ap}
 use mathlib.Core.List.{List, [], _∷_, _++_}
 use Prim.Native.Nat.{ℕ, zero, suc, _+_, _*_, _-_, _/_, _%_, _^_, _<_, _≤_}
 use native.Mathlib.Omega.{arith}
-use native.Mathlib.Nat.{add-sub-cancel-left, mul-comm, div-lt-iff-lt-mul, pow-suc, mod-lt, div-add-mod', mod-eq-of-lt, div-eq-of-lt, add-mul-div-right, add-mul-mod-self-right, mul-le-mul-right}
+use native.Mathlib.Nat.{add-sub-cancel-left, pow-suc}
 use lib.ListN.{length, getD, take, drop, length-take, length-drop, drop-of-length-le, List·getD-eq-default}
 use lib.Seq.{take-all, take-at, take-nil}
 use Rattle.words.specs.Words.{le, number, bytes, Bytes}

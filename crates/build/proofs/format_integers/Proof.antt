@@ -1,5 +1,5 @@
 -- `build::format_integers` meets its contract.
-use mathlib.Core.Path.{_≡_, _∙_, refl, sym}
+use mathlib.Core.Path.{_≡_, _∙_, sym}
 use mathlib.Core.List.{map}
 use lib.ListN.{length-map}
 use mir.Syntax.{w32}

@@ -3,7 +3,7 @@ use mathlib.Core.Path.{_≡_, refl, sym, _∙_}
 use Prim.Native.Nat.{ℕ, _-_, _<_, _≤_}
 use native.Mathlib.Omega.{arith}
 use borrow.Author.Count.{below-more}
-use lib.ListN.{getD, length, length-set, set}
+use lib.ListN.{getD, length, length-set}
 use lib.Seq.{ext-getD, getD-set-other, getD-set-same}
 use Rattle.calls.specs.Sweep.{folded}
 use Rattle.calls.proofs.Pairs.{folded-at, folded-65}

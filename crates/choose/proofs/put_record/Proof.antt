@@ -1,5 +1,5 @@
 -- `choose::put_record` meets its contract.
-use mathlib.Core.Path.{_≡_, _∙_, sym}
+use mathlib.Core.Path.{_∙_, sym}
 use native.Mathlib.Omega.{arith}
 use lib.Seq.{length-take-le}
 use Rattle.choose.specs.Chosen.{chosenBlock}

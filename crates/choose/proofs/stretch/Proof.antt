@@ -1,5 +1,4 @@
 -- `choose::stretch` meets its contract. The loop's invariant: there are that many people from the place on.
-use mathlib.Core.Path.{_≡_}
 use Prim.Native.Nat.{_+_, _-_, _≤_}
 use native.Mathlib.Omega.{arith}
 use native.Mathlib.Nat.{add-zero}

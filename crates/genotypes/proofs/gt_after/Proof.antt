@@ -1,7 +1,6 @@
 -- `genotypes::gt_after` meets its contract.
 use borrow.Author.Tests.{eq-eqb, ne-eqb}
 use Rattle.genotypes.specs.Formats.{gtNow}
-use borrow.Author.Needs.{needs}
 use Rattle.genotypes.proofs.gt_after.Statement.{statement}
 use Rattle.genotypes.proofs.gt_after.Tie as tie
 use Rattle.genotypes.proofs.gt_after.Reads as reads

@@ -1,7 +1,6 @@
 -- `genotypes::role_of` meets its contract.
 use borrow.Author.Tests.{eq-eqb, ne-eqb}
 use Rattle.genotypes.specs.Formats.{roleOf}
-use borrow.Author.Needs.{needs}
 use Rattle.genotypes.proofs.role_of.Statement.{statement}
 use Rattle.genotypes.proofs.role_of.Tie as tie
 use Rattle.genotypes.proofs.role_of.Reads as reads

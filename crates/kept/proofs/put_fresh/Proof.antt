@@ -1,7 +1,5 @@
 -- `kept::put_fresh` meets its contract.
-use mathlib.Core.Path.{_∙_, sym, ap}
-use mathlib.Core.List.{List}
-use Prim.Native.Nat.{ℕ}
+use mathlib.Core.Path.{_∙_, ap}
 use borrow.Author.Tests.{lt-ltb, le-ltb}
 use Rattle.stores.specs.Stores.{filled}
 use Rattle.build.specs.declared.Builder.{Builder}

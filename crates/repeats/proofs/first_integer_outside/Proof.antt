@@ -1,7 +1,7 @@
 -- `repeats::first_integer_outside` meets its contract. The loop's invariant: the first of all is the first of those that are left.
 use mathlib.Core.Path.{_≡_, _∙_, sym, ap}
 use mathlib.Core.List.{map}
-use Prim.Native.Nat.{_+_, _-_, _/_, _≤_}
+use Prim.Native.Nat.{_+_, _-_, _≤_}
 use native.Mathlib.Omega.{arith}
 use lib.ListN.{length, drop, length-map, getD}
 use mir.Syntax.{w32}

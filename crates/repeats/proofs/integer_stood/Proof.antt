@@ -1,7 +1,7 @@
 -- `repeats::integer_stood` meets its contract. The loop's invariant: the number is among all as it is among those that are left.
 use mathlib.Core.Path.{_≡_, _∙_, sym}
 use mathlib.Core.List.{map}
-use Prim.Native.Nat.{_-_, _/_, _≤_}
+use Prim.Native.Nat.{_-_, _≤_}
 use native.Mathlib.Omega.{arith}
 use mir.Syntax.{w32}
 use mir.Val.{ofZ}

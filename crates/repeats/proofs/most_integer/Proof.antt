@@ -1,6 +1,6 @@
 -- `repeats::most_integer` meets its contract. The loop's invariant: none of those before is larger.
 use mathlib.Core.List.{map}
-use Prim.Native.Nat.{ℕ, _-_, _/_, _<_, _≤_}
+use Prim.Native.Nat.{ℕ, _-_, _<_, _≤_}
 use native.Mathlib.Omega.{arith}
 use lib.ListN.{length, getD, length-map}
 use mir.Syntax.{w32}

@@ -1,5 +1,5 @@
 -- `stores::put_number` meets its contract. The loop's invariant: all bytes stored are the bytes that are left stored from here on.
-use mathlib.Core.Path.{_≡_, _∙_, sym, refl}
+use mathlib.Core.Path.{_≡_, _∙_, sym}
 use Prim.Native.Nat.{_+_, _-_, _<_, _≤_}
 use native.Mathlib.Omega.{arith}
 use lib.ListN.{length, length-set}

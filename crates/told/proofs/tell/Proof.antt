@@ -1,7 +1,6 @@
 -- `told::tell` meets its contract.
 use mathlib.Core.Path.{_∙_, sym}
 use Rattle.told.proofs.Room.{told-short, told-room}
-use Rattle.told.specs.Told.{toldAnswer}
 use borrow.Author.Needs.{needs}
 use Rattle.told.proofs.tell.Statement.{statement}
 use Rattle.told.proofs.tell.Tie as tie

@@ -3,7 +3,6 @@ use native.Mathlib.Omega.{arith}
 use borrow.Author.Tests.{le-leb, le-ltb, lt-leb, lt-ltb}
 use Rattle.words.proofs.Places.{front}
 use Rattle.values.specs.Values.{described}
-use lib.ListN.{length-drop}
 use borrow.Author.Needs.{needs}
 use Rattle.values.proofs.descriptor_at.Statement.{statement}
 use Rattle.values.proofs.descriptor_at.Tie as tie

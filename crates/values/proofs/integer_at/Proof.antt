@@ -3,7 +3,6 @@ use Prim.Native.Nat.{_+_}
 use native.Mathlib.Nat.{add-sub-cancel-left}
 use Rattle.words.proofs.Words.{number-part}
 use borrow.Author.Tests.{eq-eqb, le-leb, le-ltb, lt-leb, lt-ltb, ne-eqb}
-use native.Mathlib.Omega.{arith}
 use Rattle.words.proofs.Places.{front}
 use Rattle.values.specs.Values.{integer}
 use lib.ListN.{drop, length-drop}
