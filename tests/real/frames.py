@@ -9,8 +9,10 @@ import sys
 
 
 def offsets(text, kinds):
-    """The offset of each name in a dictionary, by the IDX that the file's writer gave it."""
-    lines = re.findall(rf"^##({kinds})=<ID=([^,>]+).*IDX=(\d+)>", text, re.MULTILINE)
+    """The offset of each name in a dictionary, by the IDX that htslib writes into every line of it."""
+    lines = re.findall(rf"^##({kinds})=<ID=([^,>]+).*,IDX=(\d+)>$", text, re.MULTILINE)
+    if len(lines) != len(re.findall(rf"^##(?:{kinds})=<", text, re.MULTILINE)):
+        sys.exit("a line of the header has no IDX")
     return {(kind, name): int(offset) for kind, name, offset in lines}
 
 
