@@ -1,4 +1,4 @@
--- 5 is told at the lowest place whose field breaks its rule: the order of judgement is the order of the bytes. Rests on specs/Fixed and the
+-- No field before the place that is told breaks its rule: the order of judgement is the order of the bytes. Rests on specs/Fixed and the
 -- layout; a layout whose places do not ascend in the order of judgement has no proof of it.
 use mathlib.Core.Path.{_≡_, refl}
 use mathlib.Core.List.{List}

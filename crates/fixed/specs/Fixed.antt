@@ -50,7 +50,7 @@ wrongAt f s =
     (pick (peopleWrong (f .people) (formatsIn members) (peopleIn members)) peopleAt
     0)))))
 
--- what the fixed fields say, of a record that has its blocks there
+-- what the fixed fields say, of a record whose genotype block begins and ends at these places
 unfoldable pub siteAt : ℕ → ℕ → List ℕ → Site
 siteAt border whole s =
     record {

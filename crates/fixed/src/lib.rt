@@ -186,7 +186,7 @@ fn wrong_at(s: &[u8], facts: Facts) -> usize
     0
 }
 
-// What the fixed fields say, of a record that has its blocks there.
+// What the fixed fields say, of a record whose genotype block begins and ends at these places.
 fn site_at(s: &[u8], border: usize, length: usize) -> Site
     ensures { λ r. ⌜ r ≡ siteAt border length (now (s .entry)) ⌝ }
 {
