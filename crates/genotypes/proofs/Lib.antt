@@ -1,1 +1,2 @@
+mod Earlier
 pub mod Turns

@@ -1,13 +1,13 @@
--- One turn of the loops over earlier keys and over FORMAT fields. Rests on specs/Formats.
+-- One turn of the loop over FORMAT fields. Rests on specs/Formats.
 use mathlib.Core.Path.{_≡_}
 use mathlib.Core.List.{List, [], _∷_, _++_}
-use mathlib.Core.Bool.{true, false}
+use mathlib.Core.Bool.{false}
 use Prim.Native.Nat.{ℕ, zero, suc, _+_, _-_, _<_, _≤_}
 use native.Mathlib.Omega.{arith}
 use native.Mathlib.Numerals.{add-one, sub-one}
-use lib.Dec.{eqb, leb}
-use lib.ListN.{length, getD, set, take, drop, drop-of-length-le}
-use lib.Seq.{drop-cons, take-suc-set}
+use lib.Dec.{leb}
+use lib.ListN.{length, set, take, drop}
+use lib.Seq.{take-suc-set}
 use Rattle.words.specs.Lists.{among}
 use Rattle.words.specs.Pick.{pick}
 use Rattle.words.proofs.Places.{front, drop-on}
@@ -18,16 +18,6 @@ use Rattle.vectors.specs.Sound.{sound}
 use Rattle.genotypes.specs.Formats.{formats, afterKey, noneOver, noGenotypes, roleOf, gtNow, gtAt}
 use Rattle.genotypes.specs.declared.Gt.{Gt}
 use Rattle.genotypes.specs.declared.Genotypes.the-variants.{Sound}
-
--- a key among a list, looked at from the front
-pub among-turn : (l : List ℕ) (x i : ℕ) → i < length l
-    → among x (drop i l) ≡ pick (eqb (getD l i 0) x) true (among x (drop (i + 1) l))
-unfolding among
-among-turn l x i h = rw (drop-cons l i 0 h, add-one)
-
-pub among-end : (l : List ℕ) (x i : ℕ) → length l ≤ i → among x (drop i l) ≡ false
-unfolding among
-among-end l x i h = rw (drop-of-length-le l {i = i} h)
 
 -- a field, where some are left
 pub formats-turn : (strings people gt alleles n : ℕ) (earlier : List ℕ) (known : Gt) (at : ℕ) (l : List ℕ) → 0 < n

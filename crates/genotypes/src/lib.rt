@@ -78,16 +78,53 @@ fn gt_after(key: u32, gt: u32, field: Gt, known: Gt) -> Gt
     known
 }
 
-// Whether a key is among the earlier ones, looked at from the front of the block.
+// Keys in a row, which are compared at once.
+const ROW: usize = 4;
+
+// Whether a row has a key. The sweep doesn't leave early, so that the compiler takes the row's keys together.
+fn row_has(row: &[u32], key: u32) -> bool
+    ensures { λ r. ⌜ r ≡ among key (now (row .entry)) ⌝ }
+{
+    let mut met = false;
+    let mut i = 0;
+    while i < row.len() {
+        if row[i] == key {
+            met = true;
+        }
+        i += 1;
+    }
+    met
+}
+
+// Whether a few keys have one, looked at from the nearest backwards.
+fn few_have(few: &[u32], key: u32) -> bool
+    ensures { λ r. ⌜ r ≡ among key (now (few .entry)) ⌝ }
+{
+    let mut i = few.len();
+    while 0 < i {
+        i -= 1;
+        if few[i] == key {
+            return true;
+        }
+    }
+    false
+}
+
+// Whether a key is among the earlier ones. They are compared from the nearest backwards, since a repeat is nearly always the neighbour's: those after
+// the last whole row one by one, then row by row.
 pub fn is_repeated(earlier: &[u32], key: u32) -> bool
     ensures { λ r. ⌜ r ≡ among key (now (earlier .entry)) ⌝ }
 {
-    let mut i = 0;
-    while i < earlier.len() {
-        if earlier[i] == key {
+    let mut rows = earlier.len() / ROW;
+    if few_have(&earlier[rows * ROW..], key) {
+        return true;
+    }
+    while 0 < rows {
+        rows -= 1;
+        let from = rows * ROW;
+        if row_has(&earlier[from..from + ROW], key) {
             return true;
         }
-        i += 1;
     }
     false
 }
