@@ -1,8 +1,12 @@
 /* Times two builds of the library beside each other where FORMAT keys are compared: records of one person with 3, 15 or 255
    FORMAT fields are read, and a build's last FORMAT turn is taken, with no key twice and with a last key that repeats another.
-   The two are called by turns in one process. Prints the median and the least microseconds of a call, and the medians' ratio.
+   The two are called by turns in one process, on the same buffers and from many depths of the stack: where a library's frame
+   lies beside a buffer makes a build a tenth faster or slower, whichever of them it is.
+   Prints a line for each case, its parts split by tabs: the least microseconds of a call before and now, and the median of
+   now's samples divided by before's beside them.
 
      against BEFORE.so NOW.so */
+#include <alloca.h>
 #include <dlfcn.h>
 #include <stdio.h>
 #include <stdlib.h>
@@ -11,7 +15,7 @@
 
 #include "../include/sikalumdo.h"
 
-enum { SAMPLES = 301, STRINGS = 1024, CONTIGS = 1, PEOPLE = 1, GT = 0, MOST = 4096 };
+enum { SAMPLES = 101, STRINGS = 1024, CONTIGS = 1, PEOPLE = 1, GT = 0, MOST = 4096 };
 static const double SAMPLE = 300; /* microseconds that a sample takes at least */
 
 struct Library {
@@ -24,9 +28,8 @@ struct Library {
     __typeof__(&sikalumdo_format_integers) format_integers;
 };
 
-/* A library at work: the record that it reads, or the build whose last turn it takes, and what that must answer. */
+/* What both libraries work on: the record that is read, the build whose last turn is taken, and the number that is answered. */
 struct Work {
-    struct Library library;
     int fields;
     uint8_t record[MOST], buf[MOST];
     size_t length;
@@ -55,8 +58,7 @@ static struct Library load(const char *path) {
 }
 
 /* Builds all fields but the last; their keys are 1, 2 and so on. */
-static void build(struct Work *work) {
-    struct Library *by = &work->library;
+static void build(const struct Library *by, struct Work *work) {
     uint8_t *buf = work->buf;
     uint32_t *state = work->state;
     size_t n = SIKALUMDO_STATE_NUMBERS;
@@ -86,23 +88,23 @@ static void lay_out(struct Work *work) {
     work->length = (size_t)(at - work->record);
 }
 
-static uint64_t read_once(struct Work *work) {
+static uint64_t read_once(const struct Library *by, struct Work *work) {
     uint64_t site[SIKALUMDO_SITE_NUMBERS];
-    return work->library.read(work->record, work->length, STRINGS, CONTIGS, PEOPLE, GT, site, SIKALUMDO_SITE_NUMBERS);
+    return by->read(work->record, work->length, STRINGS, CONTIGS, PEOPLE, GT, site, SIKALUMDO_SITE_NUMBERS);
 }
 
 /* The turn is taken on a copy of the state, so that each finds the same. */
-static uint64_t turn_once(struct Work *work) {
+static uint64_t turn_once(const struct Library *by, struct Work *work) {
     uint32_t state[SIKALUMDO_STATE_NUMBERS];
     int32_t value = 1;
     memcpy(state, work->state, sizeof state);
-    return work->library.format_integers(state, SIKALUMDO_STATE_NUMBERS, work->buf, MOST, work->key, 1, &value, 1);
+    return by->format_integers(state, SIKALUMDO_STATE_NUMBERS, work->buf, MOST, work->key, 1, &value, 1);
 }
 
 /* The whole build, but for its end. */
-static uint64_t build_once(struct Work *work) {
-    build(work);
-    return turn_once(work);
+static uint64_t build_once(const struct Library *by, struct Work *work) {
+    build(by, work);
+    return turn_once(by, work);
 }
 
 static double now(void) {
@@ -111,9 +113,21 @@ static double now(void) {
     return time.tv_sec * 1e6 + time.tv_nsec / 1e3;
 }
 
-static double sample(uint64_t (*once)(struct Work *), struct Work *work, int calls) {
+/* A record and a build with a last key, and the number that it must be answered with. */
+static void prepare(const struct Library *by, struct Work *work, int32_t key, uint32_t number) {
+    work->key = key;
+    work->number = number;
+    lay_out(work);
+    build(by, work);
+}
+
+typedef uint64_t Once(const struct Library *, struct Work *);
+
+/* Microseconds of a call, as the mean of some in a row, made so many bytes deeper on the stack. */
+static double sample(Once *once, const struct Library *by, struct Work *work, int calls, size_t deeper) {
+    *(volatile char *)alloca(deeper + 1) = 0;
     double start = now();
-    for (int call = 0; call < calls; call++) check(sikalumdo_number(once(work)) == work->number, "another refusal");
+    for (int call = 0; call < calls; call++) check(sikalumdo_number(once(by, work)) == work->number, "another refusal");
     return (now() - start) / calls;
 }
 
@@ -123,45 +137,39 @@ static int by_size(const void *a, const void *b) {
 }
 
 /* Times both by turns, and prints their line. */
-static void compare(const char *name, uint64_t (*once)(struct Work *), struct Work works[2]) {
-    static double samples[2][SAMPLES];
+static void compare(const struct Library by[2], struct Work *work, const char *name, Once *once) {
+    static double before[SAMPLES], after[SAMPLES], ratio[SAMPLES];
     int calls = 1;
-    while (sample(once, &works[0], calls) * calls < SAMPLE) calls *= 2;
-    for (int turn = 0; turn < SAMPLES; turn++)
-        for (int which = 0; which < 2; which++) samples[which][turn] = sample(once, &works[which], calls);
-    for (int which = 0; which < 2; which++) qsort(samples[which], SAMPLES, sizeof(double), by_size);
-    double before = samples[0][SAMPLES / 2], after = samples[1][SAMPLES / 2];
-    printf("%3d FORMAT fields, %-22s %9.3f (%.3f) %9.3f (%.3f) %7.2f\n", works[0].fields, name, before, samples[0][0], after,
-           samples[1][0], after / before);
-}
-
-/* A record of so many fields, read and built, with a last key and what it must be answered with. */
-static void compare_both(struct Work works[2], int fields, const char *name, int32_t key, uint32_t number) {
-    char line[64];
-    for (int which = 0; which < 2; which++) {
-        works[which].fields = fields;
-        works[which].key = key;
-        works[which].number = number;
-        lay_out(&works[which]);
-        build(&works[which]);
+    while (sample(once, &by[0], work, calls, 0) * calls < SAMPLE) calls *= 2;
+    for (int turn = 0; turn < SAMPLES; turn++) {
+        size_t deeper = (size_t)turn * 4096 / SAMPLES;
+        before[turn] = sample(once, &by[0], work, calls, deeper);
+        after[turn] = sample(once, &by[1], work, calls, deeper);
+        ratio[turn] = after[turn] / before[turn];
     }
-    snprintf(line, sizeof line, "read, %s", name);
-    compare(line, read_once, works);
-    snprintf(line, sizeof line, "turn, %s", name);
-    compare(line, turn_once, works);
+    qsort(before, SAMPLES, sizeof(double), by_size);
+    qsort(after, SAMPLES, sizeof(double), by_size);
+    qsort(ratio, SAMPLES, sizeof(double), by_size);
+    printf("%3d FORMAT fields, %s\t%.3f\t%.3f\t%.3f\n", work->fields, name, before[0], after[0], ratio[SAMPLES / 2]);
 }
 
 int main(int count, char **words) {
-    static struct Work works[2];
+    static struct Work work;
     static const int fields[] = {3, 15, 255};
     check(count == 3, "usage: against BEFORE.so NOW.so");
-    for (int which = 0; which < 2; which++) works[which].library = load(words[1 + which]);
-    printf("%-40s %17s %17s %7s\n", "microseconds: median (least)", "before", "now", "n/b");
+    const struct Library by[2] = {load(words[1]), load(words[2])};
     for (size_t each = 0; each < sizeof fields / sizeof *fields; each++) {
-        compare_both(works, fields[each], "no key twice", fields[each], 0);
-        compare("build, no key twice", build_once, works);
-        compare_both(works, fields[each], "the neighbour's", fields[each] - 1, 11);
-        compare_both(works, fields[each], "the first one's", 1, 11);
+        work.fields = fields[each];
+        prepare(&by[0], &work, fields[each], 0);
+        compare(by, &work, "read, no key twice", read_once);
+        compare(by, &work, "build, no key twice", build_once);
+        compare(by, &work, "turn, no key twice", turn_once);
+        prepare(&by[0], &work, fields[each] - 1, 11);
+        compare(by, &work, "read, the neighbour's", read_once);
+        compare(by, &work, "turn, the neighbour's", turn_once);
+        prepare(&by[0], &work, 1, 11);
+        compare(by, &work, "read, the first one's", read_once);
+        compare(by, &work, "turn, the first one's", turn_once);
     }
     return 0;
 }

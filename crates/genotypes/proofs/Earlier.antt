@@ -32,6 +32,13 @@ nearest keys key from to h =
     ap (λ n. among key (take n keys)) parts
     ∙ rw (take-add from (to - from) keys) (among-append key (take from keys) (take (to - from) (drop from keys)))
 
+-- a row that ends there
+pub nearest-row : (keys : List ℕ) (key row to : ℕ) → row ≤ to
+    → among key (take to keys) ≡ pick (among key (take (to - row + row - (to - row)) (drop (to - row) keys))) true (among key (take (to - row) keys))
+nearest-row keys key row to h =
+    let back : to ≡ to - row + row = omega arith in
+    ap (λ n. among key (take n keys)) back ∙ nearest keys key (to - row) (to - row + row) (omega arith)
+
 -- and among all of them
 pub nearest-of-all : (keys : List ℕ) (key from : ℕ) → from ≤ length keys
     → among key keys ≡ pick (among key (take (length keys - from) (drop from keys))) true (among key (take from keys))

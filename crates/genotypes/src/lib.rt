@@ -115,14 +115,13 @@ fn few_have(few: &[u32], key: u32) -> bool
 pub fn is_repeated(earlier: &[u32], key: u32) -> bool
     ensures { λ r. ⌜ r ≡ among key (now (earlier .entry)) ⌝ }
 {
-    let mut rows = earlier.len() / ROW;
-    if few_have(&earlier[rows * ROW..], key) {
+    let mut i = earlier.len() - earlier.len() % ROW;
+    if few_have(&earlier[i..], key) {
         return true;
     }
-    while 0 < rows {
-        rows -= 1;
-        let from = rows * ROW;
-        if row_has(&earlier[from..from + ROW], key) {
+    while ROW <= i {
+        i -= ROW;
+        if row_has(&earlier[i..i + ROW], key) {
             return true;
         }
     }
