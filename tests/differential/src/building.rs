@@ -70,7 +70,13 @@ fn sound_turns(random: &mut Random, basis: &Basis) -> Vec<Turn> {
     if basis.facts.people > 0 {
         let many = basis.facts.people < 10 && basis.facts.strings > 300 && random.one_in(20);
         if many {
-            turns.extend((0..258).map(|key| format_of(random, basis, key)));
+            // A repeat is refused, and leaves the keys as they were for the next turn.
+            let repeats = random.one_in(2);
+            for key in 0..258 {
+                let again = repeats && key > 0 && random.one_in(10);
+                let key = if again { random.below(key) } else { key };
+                turns.push(format_of(random, basis, key as u32));
+            }
         } else {
             turns.extend((0..random.below(5)).map(|_| format(random, basis)));
         }

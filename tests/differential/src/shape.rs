@@ -164,7 +164,11 @@ fn formats(random: &mut Random, facts: &Facts, alleles: usize) -> Vec<(Key, Valu
         return Vec::new();
     }
     let many = facts.people <= 60 && random.one_in(100);
-    let wanted = if many { 255 } else { random.below(5) };
+    let wanted = match many {
+        true if random.one_in(2) => 255,
+        true => random.within(5, 254) as usize,
+        false => random.below(5),
+    };
     let keys = format_keys(random, facts, wanted);
     keys.into_iter().map(|number| (key(random, number), format(random, facts, alleles, number, many))).collect()
 }
@@ -172,8 +176,8 @@ fn formats(random: &mut Random, facts: &Facts, alleles: usize) -> Vec<(Key, Valu
 /// Different keys, with GT among them as a rule.
 fn format_keys(random: &mut Random, facts: &Facts, wanted: usize) -> Vec<u32> {
     let mut keys = Vec::new();
-    if wanted == 255 && facts.strings > 400 {
-        keys.extend(1..=255);
+    if wanted > 4 && facts.strings > 400 {
+        keys.extend(1..=wanted as u32);
     }
     while keys.len() < wanted {
         let offset = if random.one_in(2) { facts.gt } else { offset(random, facts.strings) };
