@@ -18,6 +18,7 @@ use Rattle.types.specs.Rows.{integer as wholeRow, rowOf, widthOf, allowed}
 use Rattle.types.specs.Elements.{narrowest}
 use Rattle.types.specs.declared.Use.{Use}
 use Rattle.types.specs.declared.Use.the-variants.{Id, Allele, Filter, Key, Length, Info, Format, Gt}
+use Rattle.values.proofs.Stand.{mayStand-wide}
 use Rattle.values.specs.Values.{integer, trueLength, keyed, described, present}
 use Rattle.values.specs.declared.Integer.the-variants.{One}
 use Rattle.values.specs.declared.Descriptor.the-variants.{Typed}
@@ -89,7 +90,7 @@ trueLength-bytes at n m l h =
     rw (integer-bytes Length at n m refl (omega arith), le-ltb n 15 l, lt-leb 2147483648 n h)
 
 -- a descriptor
-pub described-bytes : (role : Use) (at t n : ℕ) (m : List ℕ) → allowed (rowOf t) role ≡ true → t < 16 → n < 2147483648
+pub described-bytes : (role : Use) (at t n : ℕ) (m : List ℕ) → allowed (rowOf t) role ≡ true → (t < 16) × (0 < widthOf t) → n < 2147483648
     → described role at (descriptorBytes t n ++ m) ≡ Typed t n (at + length (descriptorBytes t n))
 unfolding described descriptorBytes
 described-bytes role at t n m e k h = by-test (ltb n 15) refl
@@ -100,15 +101,16 @@ described-bytes role at t n m e k h = by-test (ltb n 15) refl
     by-test true s =
         let low : (n * 16 + t % 16) % 16 ≡ t = omega arith in
         let high : (n * 16 + t % 16) / 16 ≡ n = omega arith in
-        rw (low, high, e, s)
+        rw (low, high, mayStand-wide role t n e (k .1), s)
     by-test false s =
         let low : (0xF0 + t % 16) % 16 ≡ t = omega arith in
         let high : (0xF0 + t % 16) / 16 ≡ 15 = omega arith in
         let next : at + 1 + length (integerBytes n) ≡ at + suc (length (integerBytes n)) = omega arith in
-        rw (low, high, e, trueLength-bytes (at + 1) n m (ltb-false n 15 s) h, next)
+        rw (low, high, mayStand-wide role t 15 e (k .1), trueLength-bytes (at + 1) n m (ltb-false n 15 s) h, next)
 
 -- a value that is there
-pub present-bytes : (vectors : ℕ) (role : Use) (at t n : ℕ) (xs m : List ℕ) → allowed (rowOf t) role ≡ true → t < 16 → n < 2147483648
+pub present-bytes : (vectors : ℕ) (role : Use) (at t n : ℕ) (xs m : List ℕ) → allowed (rowOf t) role ≡ true → (t < 16) × (0 < widthOf t)
+    → n < 2147483648
     → length xs ≡ vectors * n
     → present vectors role at (valueBytes t n xs ++ m) ≡ Present t n (at + length (descriptorBytes t n)) (at + length (valueBytes t n xs))
 unfolding present valueBytes
@@ -153,7 +155,7 @@ pub present-given : (vectors : ℕ) (role : Use) (at : ℕ) (k : Kind) (n : ℕ)
     → n < 2147483648 → length xs ≡ vectors * n → present vectors role at (givenBytes k n xs ++ m) ≡ givenValue k n xs at
 unfolding givenBytes
 present-given vectors role at k n xs m e h c =
-    present-bytes vectors role at (writtenAs k xs) n xs m (allowed-written k xs role e) (written-type k xs .0) h c
+    present-bytes vectors role at (writtenAs k xs) n xs m (allowed-written k xs role e) (written-type k xs) h c
 
 -- what follows bytes, from any place on
 pub drop-front : (at : ℕ) (b m : List ℕ) → drop (at + length b - at) (b ++ m) ≡ m
@@ -184,7 +186,7 @@ unfolding sound givenBytes givenNumber
 sound-given vectors alleles role at k n xs m e h c f r =
     let t = writtenAs k xs in
     let j = judged-elements t (givenAs k) n alleles role xs (held-written k xs f) (written-type k xs .1) r in
-    rw (present-bytes vectors role at t n xs m (allowed-written k xs role e) (written-type k xs .0) h c, elements-part at t n xs m, j)
+    rw (present-bytes vectors role at t n xs m (allowed-written k xs role e) (written-type k xs) h c, elements-part at t n xs m, j)
 
 -- one vector has the length of its elements
 pub one-vector : (k : Kind) (xs : List ℕ) → length (givenBytes k (length xs) xs) ≤ mostBytes → length xs < 2147483648

@@ -1,4 +1,4 @@
--- A sound genotype block of everybody gives a sound block of the chosen people, with GT at its place there. Rests on proofs/Fronts,
+-- A sound genotype block of everybody gives a sound block of the chosen people, with GT at its place there. Rests on fetched's Fronts,
 -- proofs/Fields and the definitions of genotypes.
 use mathlib.Core.Path.{_≡_, refl, sym, _∙_, ap}
 use mathlib.Core.List.{List, [], _∷_, _++_, append-assoc}
@@ -22,7 +22,7 @@ use Rattle.fetched.proofs.Inside.{drop-past}
 use Rattle.fetched.proofs.FormatFields.{JudgedField, format-there, formats-field}
 use Rattle.people.specs.Choice.{ascending, chosenParts}
 use Rattle.choose.specs.Chosen.{chosenFields}
-use Rattle.chosen.proofs.Fronts.{keyed-front, take-past}
+use Rattle.fetched.proofs.Fronts.{keyed-front, take-past}
 use Rattle.chosen.proofs.Judging.{chosenParts-take}
 use Rattle.chosen.proofs.Fields.{length-chosen, sound-chosenParts}
 

@@ -30,7 +30,7 @@ use Rattle.choose.specs.Chosen.{chosenRecord}
 use Rattle.chosen.specs.Releases.{peopleFrom, everybody, forPeople, releasedSite}
 use Rattle.chosen.specs.Divisions.{Division, other}
 use Rattle.chosen.proofs.Choices.{ascending-cons, length-peopleFrom}
-use Rattle.chosen.proofs.Numbers.{numbers-take}
+use Rattle.fetched.proofs.Fronts.{numbers-take}
 
 -- a sum over the people of a list
 unfoldable sumOver : (ℕ → ℕ) → List ℕ → ℕ

@@ -1,4 +1,4 @@
--- A sound FORMAT value of everybody gives a sound value of the chosen people. Rests on proofs/Fronts and proofs/Judging.
+-- A sound FORMAT value of everybody gives a sound value of the chosen people. Rests on fetched's Fronts and proofs/Judging.
 use mathlib.Core.Path.{_≡_, refl}
 use mathlib.Core.List.{List, _++_}
 use mathlib.Core.Bool.{true}
@@ -10,31 +10,16 @@ use lib.Seq.{length-take-le, take-at, drop-at}
 use Rattle.types.specs.Rows.{widthOf}
 use Rattle.types.specs.declared.Use.{Use}
 use Rattle.values.specs.Values.{present}
-use Rattle.values.specs.declared.Value.{Value}
 use Rattle.values.specs.declared.Value.the-variants.{Present}
-use Rattle.vectors.specs.Sound.{sound, judgedFrom, mostOf}
+use Rattle.vectors.specs.Sound.{sound, mostOf}
 use Rattle.vectors.specs.Vectors.{judged}
-use Rattle.vectors.specs.declared.Judged.{Judged}
-use Rattle.vectors.specs.declared.Judged.the-variants.{Sound, Refused as Unsound}
-use Rattle.fetched.proofs.Agree.{sound-there}
+use Rattle.vectors.specs.declared.Judged.the-variants.{Sound}
+use Rattle.fetched.proofs.Agree.{sound-there, sound-judged}
 use Rattle.fetched.proofs.Present.{present-typed}
 use Rattle.people.specs.Choice.{ascending, chosenParts}
 use Rattle.people.proofs.Choice.{length-chosenParts}
-use Rattle.chosen.proofs.Fronts.{present-front}
+use Rattle.fetched.proofs.Fronts.{present-front}
 use Rattle.chosen.proofs.Judging.{chosenParts-take, judged-chosenParts}
-
--- a sound value's elements are judged sound
-from-judged : (first : ℕ) (v : Value) (j : Judged) {t n a b : ℕ} → judgedFrom first v j ≡ Present t n a b → j ≡ Sound
-from-judged first v Sound h = refl
-from-judged first v (Unsound r) h = cc
-
-sound-judged : (vectors alleles : ℕ) (role : Use) (at : ℕ) (l : List ℕ) (t n first stop : ℕ)
-    → sound vectors alleles role at l ≡ Present t n first stop
-    → judged (mostOf role alleles t) t n (take (stop - first) (drop (first - at) l)) ≡ Sound
-unfolding sound
-sound-judged vectors alleles role at l t n first stop h =
-    let p = sound-there vectors alleles role at l t n first stop h in
-    from-judged first (Present t n first stop) (judged (mostOf role alleles t) t n (take (stop - first) (drop (first - at) l))) (rw p at h)
 
 -- everybody's elements are there, so the chosen people's are
 pub length-chosen : (people : ℕ) (role : Use) (at : ℕ) (l cs : List ℕ) (t n first stop : ℕ) → ascending people cs ≡ true

@@ -18,7 +18,7 @@ use Rattle.vectors.specs.declared.Judged.the-variants.{Sound, Refused as Unsoun
 use Rattle.fetched.proofs.Bytes.{part-of}
 use Rattle.people.specs.Choice.{ascendingFrom, chosenParts}
 use Rattle.people.proofs.Choice.{ascends, part-inside, length-chosenParts}
-use Rattle.chosen.proofs.Numbers.{numbers-take}
+use Rattle.fetched.proofs.Fronts.{numbers-take}
 
 -- a vector that is sound at one place is sound at any
 vector-anywhere : (most t w at at′ : ℕ) (e : Bool) (xs : List ℕ) → vector most t w at e xs ≡ Sound → vector most t w at′ e xs ≡ Sound

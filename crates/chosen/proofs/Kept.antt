@@ -1,5 +1,5 @@
 -- A FORMAT field that is there, with the chosen people's elements in place of everybody's and before whatever follows: what is read of it.
--- Rests on proofs/Fronts and proofs/Filled.
+-- Rests on fetched's Fronts and proofs/Filled.
 use mathlib.Core.Path.{_≡_, sym, _∙_}
 use mathlib.Core.List.{List, _++_}
 use mathlib.Core.Bool.{true}
@@ -15,7 +15,7 @@ use Rattle.fetch.specs.declared.Found.the-variants.{Field}
 use Rattle.people.specs.Choice.{ascending, chosenParts}
 use Rattle.people.proofs.Choice.{length-chosenParts}
 use Rattle.chosen.proofs.Filled.{Fill}
-use Rattle.chosen.proofs.Fronts.{paired-front}
+use Rattle.fetched.proofs.Fronts.{paired-front}
 
 -- a list that begins with such a field: the field, and the list's parts
 pub record Kept (key code len front at k : ℕ) (before els m x : List ℕ) : Type 0 where

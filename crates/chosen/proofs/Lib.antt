@@ -6,7 +6,6 @@ pub mod Divided
 pub mod Everybody
 pub mod Fields
 pub mod Filled
-pub mod Fronts
 pub mod Judging
 pub mod Kept
 pub mod Numbers

@@ -1,41 +1,17 @@
--- The numbers at the front of a list: they depend on their own bytes only, some are followed by the others, and those of the chosen people
--- are chosen from everybody's. Rests on vectors' numbers and on the choice.
-use mathlib.Core.Path.{_≡_, refl, sym, _∙_, ap}
-use mathlib.Core.List.{List, [], _∷_, _++_, append-assoc, map}
+-- The numbers at the front of a list: some are followed by the others, and those of the chosen people are chosen from everybody's. Rests
+-- on vectors' numbers, on the choice and on fetched's Fronts.
+use mathlib.Core.Path.{_≡_, refl}
+use mathlib.Core.List.{List, [], _∷_, _++_, append-assoc}
 use mathlib.Core.Bool.{true}
 use Prim.Native.Nat.{ℕ, zero, suc, _+_, _*_, _≤_}
 use native.Mathlib.Omega.{arith}
 use native.Mathlib.Nat.{suc-mul, zero-mul, suc-add, zero-add, mul-assoc}
 use lib.ListN.{length, take, drop, length-drop}
-use lib.Seq.{drop-drop, take-take, take-nil, take-at, drop-at, length-take-le}
-use Rattle.words.specs.Words.{number}
-use Rattle.types.specs.Elements.{shown}
-use Rattle.vectors.specs.Vectors.{numbers, shownNumbers}
+use lib.Seq.{drop-drop, take-at, drop-at, length-take-le}
+use Rattle.vectors.specs.Vectors.{shownNumbers}
+use Rattle.fetched.proofs.Fronts.{numbers-take, shownNumbers-numbers}
 use Rattle.people.specs.Choice.{ascendingFrom, chosenParts}
 use Rattle.people.proofs.Choice.{ascends, part-inside}
-
--- past the front of a part that goes on behind it
-drop-take : {A : Type 0} (w k : ℕ) (l : List A) → drop w (take (w + k) l) ≡ take k (drop w l)
-drop-take zero k l = rw (zero-add k)
-drop-take {A} (suc w) k [] = rw (take-nil {A = A} (suc w + k), take-nil {A = A} k)
-drop-take (suc w) k (x ∷ l) = rw (suc-add w k) (drop-take w k l)
-
--- numbers depend on their own bytes only
-pub numbers-take : (w n : ℕ) (l m : List ℕ) → take (n * w) l ≡ take (n * w) m → numbers w n l ≡ numbers w n m
-unfolding numbers number
-numbers-take w zero l m h = refl
-numbers-take w (suc n) l m h =
-    let e : suc n * w ≡ w + n * w = omega (arith, suc-mul n w) in
-    let k : take (w + n * w) l ≡ take (w + n * w) m = rw e at h in
-    let front : take w l ≡ take w m =
-    sym (take-take w (w + n * w) l (omega arith)) ∙ ap (take w) k ∙ take-take w (w + n * w) m (omega arith) in
-    let rest : take (n * w) (drop w l) ≡ take (n * w) (drop w m) = sym (drop-take w (n * w) l) ∙ ap (drop w) k ∙ drop-take w (n * w) m in
-    rw (front, numbers-take w n (drop w l) (drop w m) rest)
-
-shownNumbers-numbers : (t w n : ℕ) (l : List ℕ) → shownNumbers t w n l ≡ map (shown t) (numbers w n l)
-unfolding shownNumbers numbers
-shownNumbers-numbers t w zero l = refl
-shownNumbers-numbers t w (suc n) l = rw (shownNumbers-numbers t w n (drop w l))
 
 shownNumbers-add : (t w a b : ℕ) (l : List ℕ) → shownNumbers t w (a + b) l ≡ shownNumbers t w a l ++ shownNumbers t w b (drop (a * w) l)
 unfolding shownNumbers

@@ -20,7 +20,8 @@ use Rattle.fixed.proofs.Fits.{Fits}
 use Rattle.choose.proofs.Written.{length-chosenSite, length-chosenRecord}
 use Rattle.chosen.specs.Releases.{forPeople, releasedSite}
 use Rattle.chosen.proofs.Sets.{drop-sets}
-use Rattle.chosen.proofs.Stored.{field-take, field-elsewhere, field-stored, field-append, field-bound}
+use Rattle.fetched.proofs.Fronts.{field-take, field-append}
+use Rattle.chosen.proofs.Stored.{field-elsewhere, field-stored, field-bound}
 
 -- the bytes from ID on stay
 pub drop-chosenSite : (t : Site) (cs : List ℕ) (n : ℕ) (s : List ℕ) → drop idAt (chosenSite t cs n s) ≡ drop idAt (take (t .border) s)

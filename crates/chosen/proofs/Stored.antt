@@ -7,26 +7,18 @@ use Prim.Native.Nat.{ℕ, zero, suc, _+_, _-_, _≤_, _<_, _^_}
 use native.Mathlib.Omega.{arith}
 use lib.Dec.{leb}
 use lib.ListN.{length, take, drop, set, length-drop}
-use lib.Seq.{sets, sets-eq, take-set-le, take-append-le, length-take-le, drop-at}
+use lib.Seq.{sets, sets-eq, take-set-le, length-take-le, drop-at}
 use borrow.Author.Tests.{leb-true, leb-false}
 use Rattle.words.specs.Words.{number, bytes, Bytes}
 use Rattle.words.proofs.Words.{le-bound, length-bytes, number-bytes}
 use Rattle.fixed.specs.Layout.{field}
-use Rattle.fetched.proofs.Bytes.{part-of}
+use Rattle.fetched.proofs.Fronts.{field-part, field-take}
 use Rattle.chosen.proofs.Sets.{drop-sets}
 
 -- a store leaves what stands before it
 take-sets : (n : ℕ) (l : List ℕ) (i : ℕ) (vs : List ℕ) → n ≤ i → take n (sets l i vs) ≡ take n l
 take-sets n l i [] h = refl
 take-sets n l i (v ∷ vs) h = take-sets n (set l i v) (suc i) vs (omega arith) ∙ take-set-le n l i v h
-
--- a field is its four bytes
-field-part : (p : ℕ) (l m : List ℕ) → take 4 (drop p l) ≡ take 4 (drop p m) → field p l ≡ field p m
-unfolding field number
-field-part p l m h = rw h
-
-pub field-take : (p n : ℕ) (l : List ℕ) → p + 4 ≤ n → field p (take n l) ≡ field p l
-field-take p n l h = field-part p (take n l) l (part-of l p 4 n h)
 
 field-before : (p i : ℕ) (l vs : List ℕ) → p + 4 ≤ i → field p (sets l i vs) ≡ field p l
 field-before p i l vs h =
@@ -51,10 +43,6 @@ field-stored i v l h b =
     let k : i + length (bytes 4 v) ≤ length l = omega arith in
     let q : length (take i l) ≡ i = length-take-le i l (omega arith) in
     rw (sets-eq (bytes 4 v) l i k, append-assoc (take i l) (bytes 4 v) rest, drop-at (take i l) (bytes 4 v ++ rest) i q) (number-bytes 4 v rest b)
-
-pub field-append : (p : ℕ) (l m : List ℕ) → p + 4 ≤ length l → field p (l ++ m) ≡ field p l
-field-append p l m h =
-    sym (field-take p (p + 4) (l ++ m) (omega arith)) ∙ ap (field p) (take-append-le (p + 4) l m h) ∙ field-take p (p + 4) l (omega arith)
 
 -- parts of bytes are bytes
 pub Bytes-drop : (n : ℕ) (l : List ℕ) → Bytes l → Bytes (drop n l)

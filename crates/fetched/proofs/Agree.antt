@@ -52,6 +52,19 @@ pub sound-there : (vectors alleles : ℕ) (role : Use) (at : ℕ) (l : List ℕ)
 unfolding sound
 sound-there vectors alleles role at l t n first stop h = soundly-there alleles role at l (present vectors role at l) h
 
+-- a sound value's elements are judged sound
+from-judged : (first : ℕ) (v : Value) (j : Judged) {t n a b : ℕ} → judgedFrom first v j ≡ Present t n a b → j ≡ Sound
+from-judged first v Sound h = refl
+from-judged first v (Unsound r) h = cc
+
+pub sound-judged : (vectors alleles : ℕ) (role : Use) (at : ℕ) (l : List ℕ) (t n first stop : ℕ)
+    → sound vectors alleles role at l ≡ Present t n first stop
+    → judged (mostOf role alleles t) t n (take (stop - first) (drop (first - at) l)) ≡ Sound
+unfolding sound
+sound-judged vectors alleles role at l t n first stop h =
+    let p = sound-there vectors alleles role at l t n first stop h in
+    from-judged first (Present t n first stop) (judged (mostOf role alleles t) t n (take (stop - first) (drop (first - at) l))) (rw p at h)
+
 -- past a sound value, past the value
 pub sound-past : (v w : Value) {q : ℕ} → ((t n first stop : ℕ) → v ≡ Present t n first stop → w ≡ Present t n first stop)
     → valueStep v ≡ At q → valueStep w ≡ At q
@@ -63,7 +76,7 @@ unfolding passing alone
 id-passed people at l q h =
     value-passed 0 (present 1 IdUse at l) ∙ sound-past (sound 1 0 IdUse at l) (present 1 IdUse at l) (sound-there 1 0 IdUse at l) h
 
-allele-value : (at : ℕ) (l : List ℕ) (v : Value) {q : ℕ} → alleleValue at l v ≡ At q → valueStep v ≡ At q
+pub allele-value : (at : ℕ) (l : List ℕ) (v : Value) {q : ℕ} → alleleValue at l v ≡ At q → valueStep v ≡ At q
 allele-value at l (NoValue r) h = h
 allele-value at l (Present t n first stop) h = by-elements (eqb n 0) (alleleBytes 0 (take (stop - first) (drop (first - at) l))) h
   where
@@ -76,7 +89,7 @@ pub allele-passed : (people at : ℕ) (l : List ℕ) (q : ℕ) → allele at l �
 unfolding passing alone allele
 allele-passed people at l q h = value-passed 0 (present 1 AlleleUse at l) ∙ allele-value at l (present 1 AlleleUse at l) h
 
-filter-value : (strings at : ℕ) (l : List ℕ) (v : Value) {q : ℕ} → filterValue strings at l v ≡ At q → valueStep v ≡ At q
+pub filter-value : (strings at : ℕ) (l : List ℕ) (v : Value) {q : ℕ} → filterValue strings at l v ≡ At q → valueStep v ≡ At q
 filter-value strings at l (NoValue r) h = h
 filter-value strings at l (Present t n first stop) h = by-elements (filtered strings t (take (stop - first) (drop (first - at) l))) h
   where

@@ -14,7 +14,7 @@ use Rattle.types.specs.Rows.{rows, rowOf, widthOf, unused}
 use Rattle.types.specs.declared.Row.{Row}
 use Rattle.types.specs.declared.Use.the-variants.{Key, Format as FormatUse, Gt as GtUse}
 use Rattle.values.specs.Answers.{integerInside, noInteger, one, noDescriptor, typed}
-use Rattle.values.specs.Values.{integer, inDictionary, keyed, withLength, trueLength, described, withElements, present}
+use Rattle.values.specs.Values.{integer, inDictionary, keyed, withLength, trueLength, mayStand, described, withElements, present}
 use Rattle.values.specs.declared.Integer.{Integer}
 use Rattle.values.specs.declared.Integer.the-variants.{One, Refused as NoInteger}
 use Rattle.values.specs.declared.Descriptor.{Descriptor}
@@ -64,6 +64,15 @@ gt-format : (t : ℕ) → rowOf t .gt ≡ true → rowOf t .format ≡ true
 unfolding rowOf
 gt-format t h = implied (getD rows t unused .gt) (getD rows t unused .format) (each-wider rows unused t refl refl) h
 
+-- and so does a descriptor: type 0 has length 0 for both
+wider-test : (a b c : Bool) → (a ≡ true → b ≡ true) → pick a c false ≡ true → pick b c false ≡ true
+wider-test true b c f h = rw (f refl) h
+wider-test false b c f h = cc
+
+gt-stands : (t n : ℕ) → mayStand GtUse t n ≡ true → mayStand FormatUse t n ≡ true
+unfolding mayStand
+gt-stands t n h = wider-test (rowOf t .gt) (rowOf t .format) (pick (eqb t 0) (eqb n 0) true) (gt-format t) h
+
 -- a test that lets more through, before the same answers
 more-typed : (b c : Bool) (x : Descriptor) (at : ℕ) {t n first : ℕ} → (b ≡ true → c ≡ true)
     → pick b x (noDescriptor 6 at) ≡ Typed t n first → pick c x (noDescriptor 6 at) ≡ Typed t n first
@@ -75,9 +84,9 @@ gt-described : (at : ℕ) (l : List ℕ) {t n first : ℕ} → described GtUse a
 unfolding described
 gt-described at [] h = h
 gt-described at (d ∷ rest) h =
-    more-typed (rowOf (d % 16) .gt) (rowOf (d % 16) .format)
+    more-typed (mayStand GtUse (d % 16) (d / 16)) (mayStand FormatUse (d % 16) (d / 16))
     (pick (ltb (d / 16) 15) (typed (d % 16) (d / 16) (at + 1)) (withLength (d % 16) (trueLength (at + 1) rest))) at
-    (gt-format (d % 16)) h
+    (gt-stands (d % 16) (d / 16)) h
 
 role-described : (b : Bool) (at : ℕ) (l : List ℕ) (t n first : ℕ) → described (pick b GtUse FormatUse) at l ≡ Typed t n first
     → described FormatUse at l ≡ Typed t n first
@@ -122,7 +131,7 @@ unfolding format passing paired keyed
 format-passed strings people gt alleles at l q h = format-value strings people gt alleles at l (integer Key at l) h
 
 -- a key in the dictionary is an integer
-keyed-integer : (strings at : ℕ) (l : List ℕ) (x next : ℕ) → keyed strings at l ≡ One x next → integer Key at l ≡ One x next
+pub keyed-integer : (strings at : ℕ) (l : List ℕ) (x next : ℕ) → keyed strings at l ≡ One x next → integer Key at l ≡ One x next
 unfolding keyed
 keyed-integer strings at l x next h = by-integer (integer Key at l) h
   where

@@ -15,7 +15,7 @@ use Rattle.types.specs.Rows.{rowOf, widthOf, allowed}
 use Rattle.types.specs.declared.Use.{Use}
 use Rattle.types.specs.declared.Use.the-variants.{Key, Length, Id as IdUse, Allele as AlleleUse, Filter as FilterUse, Info as InfoUse, Format as FormatUse}
 use Rattle.values.specs.Answers.{integerInside, descriptorInside, valueInside}
-use Rattle.values.specs.Values.{integer, inDictionary, keyed, longEnough, trueLength, withLength, described, withElements, present}
+use Rattle.values.specs.Values.{integer, inDictionary, keyed, longEnough, trueLength, withLength, mayStand, described, withElements, present}
 use Rattle.values.specs.declared.Integer.{Integer}
 use Rattle.values.specs.declared.Integer.the-variants.{One, Refused as NoInteger}
 use Rattle.values.specs.declared.Descriptor.{Descriptor}
@@ -71,7 +71,7 @@ described-inside role at [] = tt
 described-inside role at (d ∷ rest) =
     let P = descriptorInside at (at + length (d ∷ rest)) in
     let i = integer Length (at + 1) rest in
-    either P (allowed (rowOf (d % 16)) role) _ _
+    either P (mayStand role (d % 16) (d / 16)) _ _
     (either P (ltb (d / 16) 15) _ _ (omega arith, omega arith)
     (length-inside (d % 16) at (at + 1 + length rest) (at + length (d ∷ rest)) (longEnough (at + 1) i) (omega arith)
     (long-inside (at + 1) (at + 1 + length rest) i (integer-inside Length (at + 1) rest)))) tt

@@ -8,7 +8,7 @@ use Rattle.words.specs.Lists.{among}
 use Rattle.words.specs.Words.{le, number, bytes, outside}
 use Rattle.types.specs.Rows.{rowOf, widthOf}
 use Rattle.types.specs.Elements.{marked, kind, widened, shown}
-use Rattle.values.specs.Values.{integer, trueLength, keyed, described, present}
+use Rattle.values.specs.Values.{integer, trueLength, keyed, mayStand, described, present}
 use Rattle.vectors.specs.Vectors.{numbers, shownNumbers, vector, vectors, judged}
 use Rattle.vectors.specs.Sound.{highest, codeMost, sound}
 use Rattle.fixed.specs.Layout.{field, posWrong, peopleWrong, qualWrong}
@@ -38,7 +38,7 @@ two = record { first = refl; second = refl; once = λ p h. once p h }
     once (suc (suc p)) h = absurd (omega arith)
 
 pub sample-cut : Cut
-unfolding sample second among le number bytes outside rowOf widthOf marked kind widened shown integer trueLength keyed described present numbers shownNumbers vector vectors judged highest codeMost sound field posWrong peopleWrong qualWrong blocks wrongAt siteAt fixed times alleleBytes allele filters filtered filter info site roleOf gtNow formats siteOf genotypesOf reading paired passing past toField fieldIn fieldOf found fetched slots alleleOf alleles people called without howMany counters tally peopleOf counted callsOf tallied ascendingFrom chosenParts chosenFields chosenBlock chosenSite chosenRecord choosing
+unfolding sample second among le number bytes outside rowOf widthOf marked kind widened shown integer trueLength keyed mayStand described present numbers shownNumbers vector vectors judged highest codeMost sound field posWrong peopleWrong qualWrong blocks wrongAt siteAt fixed times alleleBytes allele filters filtered filter info site roleOf gtNow formats siteOf genotypesOf reading paired passing past toField fieldIn fieldOf found fetched slots alleleOf alleles people called without howMany counters tally peopleOf counted callsOf tallied ascendingFrom chosenParts chosenFields chosenBlock chosenSite chosenRecord choosing
 sample-cut =
     record {
       bytes = refl;

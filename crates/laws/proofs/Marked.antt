@@ -4,7 +4,7 @@ use lib.ListN.{take, drop}
 use Rattle.words.specs.Words.{le, number}
 use Rattle.types.specs.Rows.{rowOf, widthOf}
 use Rattle.types.specs.Elements.{marked, kind, widened, shown, narrowest}
-use Rattle.values.specs.Values.{integer, trueLength, described, present}
+use Rattle.values.specs.Values.{integer, trueLength, mayStand, described, present}
 use Rattle.vectors.specs.Vectors.{numbers, vector, vectors, judged}
 use Rattle.vectors.specs.Sound.{highest, codeMost}
 use Rattle.fixed.specs.Layout.{indivAt, field}
@@ -15,7 +15,7 @@ use Rattle.laws.proofs.Cut.{sample-cut}
 use Rattle.laws.proofs.Sample.{sample-read}
 
 pub examples : Marked
-unfolding le number rowOf widthOf marked kind widened shown narrowest integer trueLength described present numbers vector vectors judged highest codeMost codeCall callAt field
+unfolding le number rowOf widthOf marked kind widened shown narrowest integer trueLength mayStand described present numbers vector vectors judged highest codeMost codeCall callAt field
 examples =
     record {
       m1 = λ rest. refl;

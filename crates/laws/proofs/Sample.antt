@@ -7,7 +7,7 @@ use Rattle.words.specs.Lists.{among}
 use Rattle.words.specs.Words.{le, number, bytes, outside}
 use Rattle.types.specs.Rows.{rowOf, widthOf}
 use Rattle.types.specs.Elements.{marked, kind, widened, shown, narrowest}
-use Rattle.values.specs.Values.{integer, trueLength, keyed, described, present}
+use Rattle.values.specs.Values.{integer, trueLength, keyed, mayStand, described, present}
 use Rattle.vectors.specs.Vectors.{numbers, shownNumbers, vector, vectors, judged}
 use Rattle.vectors.specs.Sound.{highest, codeMost, sound}
 use Rattle.fixed.specs.Layout.{field, posWrong, peopleWrong, qualWrong, mostBytes}
@@ -75,5 +75,5 @@ sample-keeps =
     short = omega arith
 
 pub sample-read : Sample
-unfolding sample among le number outside rowOf widthOf marked kind widened shown integer trueLength keyed described present numbers shownNumbers vector vectors judged highest codeMost sound field posWrong peopleWrong qualWrong blocks wrongAt siteAt fixed times alleleBytes allele filters filtered filter info site roleOf gtNow formats siteOf genotypesOf reading elementsOf pairsShown fieldsShown allelesThen nothing shownOf slots alleleOf alleles people called without howMany counters tally peopleOf counted callsOf tallied written decimal spaced callNumbers acceptedLine recordLine
+unfolding sample among le number outside rowOf widthOf marked kind widened shown integer trueLength keyed mayStand described present numbers shownNumbers vector vectors judged highest codeMost sound field posWrong peopleWrong qualWrong blocks wrongAt siteAt fixed times alleleBytes allele filters filtered filter info site roleOf gtNow formats siteOf genotypesOf reading elementsOf pairsShown fieldsShown allelesThen nothing shownOf slots alleleOf alleles people called without howMany counters tally peopleOf counted callsOf tallied written decimal spaced callNumbers acceptedLine recordLine
 sample-read = record { read = refl; shows = refl; built = sample-bytes; tight = rw sample-bytes at (keeps-tight facts sampleShown sample-keeps); tally = refl; line = refl }

@@ -51,43 +51,50 @@ agree false false h = refl
 abbrev pub whole : ℕ → Bool
 whole t = both (leb 1 t) (leb t 3)
 
--- 01's rule for the row of a code: text for ID and alleles; integers for FILTER, keys, true lengths and GT; any type that is
--- used for INFO and FORMAT values; a width of 1, 2 or 4 for those, else 0
+-- the codes that a test takes, and type 0
+abbrev pub orBare : ℕ → Bool → Bool
+orBare t b = pick (eqb t 0) true b
+
+-- the rule for the row of a code: text for ID and alleles; integers for keys and true lengths; integers and type 0 for FILTER and GT; type 0
+-- and any type with a width for INFO and FORMAT values; a width of 0, 1, 2 or 4, of type 0 none
 pub record Rule (t : ℕ) (r : Row) : Type 0 where
   pub id : r .id ≡ eqb t 7
   pub allele : r .allele ≡ eqb t 7
-  pub filter : r .filter ≡ whole t
+  pub filter : r .filter ≡ orBare t (whole t)
   pub key : r .key ≡ whole t
   pub len : r .len ≡ whole t
-  pub gt : r .gt ≡ whole t
-  pub info : r .info ≡ ltb 0 (r .width)
-  pub format : r .format ≡ ltb 0 (r .width)
+  pub gt : r .gt ≡ orBare t (whole t)
+  pub info : r .info ≡ orBare t (ltb 0 (r .width))
+  pub format : r .format ≡ orBare t (ltb 0 (r .width))
   pub most : leb (r .width) 4 ≡ true
   pub three : eqb (r .width) 3 ≡ false
+  pub none : pick (eqb t 0) (eqb (r .width) 0) true ≡ true
 
 abbrev ruled : ℕ → Row → Bool
 ruled t r =
     both (same (r .id) (eqb t 7))
     (both (same (r .allele) (eqb t 7))
-    (both (same (r .filter) (whole t))
+    (both (same (r .filter) (orBare t (whole t)))
     (both (same (r .key) (whole t))
     (both (same (r .len) (whole t))
-    (both (same (r .gt) (whole t))
-    (both (same (r .info) (ltb 0 (r .width)))
-    (both (same (r .format) (ltb 0 (r .width)))
+    (both (same (r .gt) (orBare t (whole t)))
+    (both (same (r .info) (orBare t (ltb 0 (r .width))))
+    (both (same (r .format) (orBare t (ltb 0 (r .width))))
     (both (leb (r .width) 4)
-    (same (eqb (r .width) 3) false)))))))))
+    (both (same (eqb (r .width) 3) false)
+    (pick (eqb t 0) (eqb (r .width) 0) true))))))))))
 
 rule : (t : ℕ) (r : Row) → ruled t r ≡ true → Rule t r
 rule t r h =
     let h1 = right (same (r .id) (eqb t 7)) _ h in
     let h2 = right (same (r .allele) (eqb t 7)) _ h1 in
-    let h3 = right (same (r .filter) (whole t)) _ h2 in
+    let h3 = right (same (r .filter) (orBare t (whole t))) _ h2 in
     let h4 = right (same (r .key) (whole t)) _ h3 in
     let h5 = right (same (r .len) (whole t)) _ h4 in
-    let h6 = right (same (r .gt) (whole t)) _ h5 in
-    let h7 = right (same (r .info) (ltb 0 (r .width))) _ h6 in
-    let h8 = right (same (r .format) (ltb 0 (r .width))) _ h7 in
+    let h6 = right (same (r .gt) (orBare t (whole t))) _ h5 in
+    let h7 = right (same (r .info) (orBare t (ltb 0 (r .width)))) _ h6 in
+    let h8 = right (same (r .format) (orBare t (ltb 0 (r .width)))) _ h7 in
+    let h9 = right (leb (r .width) 4) _ h8 in
     record {
       id = agree _ _ (left _ _ h);
       allele = agree _ _ (left _ _ h1);
@@ -98,7 +105,8 @@ rule t r h =
       info = agree _ _ (left _ _ h6);
       format = agree _ _ (left _ _ h7);
       most = left _ _ h8;
-      three = agree (eqb (r .width) 3) false (right (leb (r .width) 4) _ h8);
+      three = agree (eqb (r .width) 3) false (left _ _ h9);
+      none = right (same (eqb (r .width) 3) false) _ h9;
     }
 
 -- the rule holds of every low half

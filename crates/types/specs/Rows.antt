@@ -52,6 +52,21 @@ text =
       gt = false;
     }
 
+-- type 0, a bare 00: missing, where a FILTER, an INFO or a FORMAT value stands, GT included; it has no elements and no width
+abbrev pub bare : Row
+bare =
+    record {
+      width = 0;
+      id = false;
+      allele = false;
+      filter = true;
+      key = false;
+      len = false;
+      info = true;
+      format = true;
+      gt = true;
+    }
+
 -- a code that is not used has no width and no use
 abbrev pub unused : Row
 unused =
@@ -70,7 +85,7 @@ unused =
 -- the table, by low half
 abbrev pub rows : List Row
 rows =
-    unused ∷
+    bare ∷
     integer 1 ∷
     integer 2 ∷
     integer 4 ∷

@@ -18,7 +18,7 @@ pub enum Use {
     Gt,
 }
 
-// A row of the table: the bytes of an element, 0 for a code that is unused, and where a value of the type may stand.
+// A row of the table: the bytes of an element, 0 for a bare 00 and for a code that is unused, and where a value of the type may stand.
 pub struct Row {
     pub width: u8,
     pub id: bool,
@@ -30,6 +30,18 @@ pub struct Row {
     pub format: bool,
     pub gt: bool,
 }
+
+const BARE: Row = Row {
+    width: 0,
+    id: false,
+    allele: false,
+    filter: true,
+    key: false,
+    len: false,
+    info: true,
+    format: true,
+    gt: true,
+};
 
 const UNUSED: Row = Row {
     width: 0,
@@ -105,7 +117,7 @@ const TEXT: Row = Row {
 
 // The table, by low half.
 const ROWS: [Row; 16] = [
-    UNUSED,
+    BARE,
     INT8,
     INT16,
     INT32,

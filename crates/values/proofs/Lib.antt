@@ -1,2 +1,3 @@
 pub mod Present
 pub mod Room
+pub mod Stand

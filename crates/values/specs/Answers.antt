@@ -19,7 +19,8 @@ noInteger n p = NoInteger (refusal n p)
 abbrev pub one : ℕ → ℕ → Integer
 one x next = One x next
 
--- a descriptor: refused; or the type, the length and the place of the first element
+-- a descriptor: refused; or the type, the length and the place of the first element. A bare 00 is type 0, a kind of its own, with length 0 and
+-- the place just after it
 abbrev pub noDescriptor : ℕ → ℕ → Descriptor
 noDescriptor n p = NoDescriptor (refusal n p)
 

@@ -2,6 +2,7 @@
 -- label for refusals. Rests on types' table and words' numbers.
 use Prim.Native.Nat.{ℕ, _+_, _*_, _/_, _%_}
 use mathlib.Core.List.{List, [], _∷_}
+use mathlib.Core.Bool.{Bool, true, false}
 use lib.Dec.{ltb, leb, eqb}
 use lib.ListN.{length}
 use Rattle.words.specs.Pick.{pick}
@@ -47,6 +48,10 @@ inDictionary strings at (One x next) = pick (outside strings x) (noInteger 8 (at
 unfoldable pub keyed : ℕ → ℕ → List ℕ → Integer
 keyed strings at l = inDictionary strings at (integer Key at l)
 
+-- a type that the use allows, with any length; type 0 has length 0 alone, so that its descriptor is a bare 00
+unfoldable pub mayStand : Use → ℕ → ℕ → Bool
+mayStand role t n = pick (allowed (rowOf t) role) (pick (eqb t 0) (eqb n 0) true) false
+
 -- a descriptor: the low half is the type, the high half the length; 15 there says that a true length follows
 abbrev pub withLength : ℕ → Integer → Descriptor
 withLength t (NoInteger r) = NoDescriptor r
@@ -57,7 +62,7 @@ described role at [] = noDescriptor 3 at
 described role at (d ∷ rest) =
     let t = d % 16 in
     let n = d / 16 in
-    pick (allowed (rowOf t) role)
+    pick (mayStand role t n)
     (pick (ltb n 15) (typed t n (at + 1)) (withLength t (trueLength (at + 1) rest)))
     (noDescriptor 6 at)
 

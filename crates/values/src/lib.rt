@@ -5,7 +5,7 @@ ghost use Prim.Native.Nat.{_+_, _*_, _≤_};
 ghost use lib.Dec.{leb};
 ghost use lib.ListN.{drop, length};
 ghost use Rattle.values.specs.Answers.{integerRefusal, descriptorRefusal, integerInside, descriptorInside, valueInside};
-ghost use Rattle.values.specs.Values.{integer, trueLength, keyed, described, present};
+ghost use Rattle.values.specs.Values.{integer, trueLength, keyed, mayStand, described, present};
 use types::Use;
 
 // Why something is refused: 01's number, and the place, a byte offset.
@@ -20,7 +20,7 @@ pub enum Integer {
     Refused(Refusal),
 }
 
-// A descriptor: the type, the length and the place of the first element.
+// A descriptor: the type, the length and the place of the first element. A bare 00 is a type of its own, 0, of length 0.
 pub enum Descriptor {
     Typed { code: u8, len: u32, first: usize },
     Refused(Refusal),
@@ -149,6 +149,19 @@ pub fn key_at(block: &[u8], at: usize, strings: u32) -> Integer
     Integer::One { bits, next }
 }
 
+// Whether a descriptor's low and high half may stand at a use. Type 0 has no length but 0: it is a bare 00.
+fn may_stand(role: Use, code: u8, n: u8) -> bool
+    ensures { λ r. ⌜ r ≡ mayStand role code n ⌝ }
+{
+    if types::allows(types::row_of(code), role) {
+        if code == 0 {
+            return n == 0;
+        }
+        return true;
+    }
+    false
+}
+
 // The descriptor at a place, for a use.
 pub fn descriptor_at(block: &[u8], at: usize, role: Use) -> Descriptor
     ensures { λ r. ⌜ r ≡ described role at (drop at (now (block .entry))) ⌝ }
@@ -163,8 +176,7 @@ pub fn descriptor_at(block: &[u8], at: usize, role: Use) -> Descriptor
     let d = block[at];
     let code = d % 16;
     let n = d / 16;
-    let row = types::row_of(code);
-    if types::allows(row, role) {
+    if may_stand(role, code, n) {
         if n < 15 {
             return Descriptor::Typed {
                 code,

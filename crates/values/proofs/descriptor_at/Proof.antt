@@ -1,90 +1,82 @@
 -- `values::descriptor_at` meets its contract.
-use native.Mathlib.Omega.{arith}
 use borrow.Author.Tests.{le-leb, le-ltb, lt-leb, lt-ltb}
 use Rattle.words.proofs.Places.{front}
 use Rattle.values.specs.Values.{described}
+use native.Mathlib.Omega.{arith}
 use borrow.Author.Needs.{needs}
 use Rattle.values.proofs.descriptor_at.Statement.{statement}
 use Rattle.values.proofs.descriptor_at.Tie as tie
 use Rattle.values.proofs.descriptor_at.Reads as reads
 use Rattle.values.proofs.descriptor_at.Lts as lts
-use Rattle.types.proofs.allows.Reads as allows-reads
-use Rattle.types.proofs.row_of.Reads as row-of-reads
 use Rattle.values.proofs.integer_refusal.Reads as integer-refusal-reads
+use Rattle.values.proofs.may_stand.Reads as may-stand-reads
 use Rattle.values.proofs.true_length.Reads as true-length-reads
 
--- src/lib.rt:140:9
+-- src/lib.rt:172:9
 -- fill: 08c3e05f
 returns : tie.Need-returns
 unfolding described
 returns c =
     (rw (front (described _ _) _ _) (simp (le-leb _ _ (c .if1 .taken))), search needs)
 
--- src/lib.rt:142:13
+-- src/lib.rt:177:13
 shared-slice-read-d : tie.Need-shared-slice-read-d
 shared-slice-read-d c = search needs
 
--- src/lib.rt:145:9
-row-of-requires : tie.Need-row-of-requires
-row-of-requires c κs = search needs
+-- src/lib.rt:180:8
+may-stand-requires : tie.Need-may-stand-requires
+may-stand-requires c κs = search needs
 
--- src/lib.rt:146:8
-allows-requires : tie.Need-allows-requires
-allows-requires c κs = search needs
+-- src/lib.rt:184:22
+cast-t17 : tie.Need-cast-t17
+cast-t17 c = search needs
 
--- src/lib.rt:148:51
-cast-t18 : tie.Need-cast-t18
-cast-t18 c = search needs
+-- src/lib.rt:185:24
+add-t18 : tie.Need-add-t18
+add-t18 c = search needs
 
--- src/lib.rt:148:68
-add-t19 : tie.Need-add-t19
-add-t19 c = search needs
-
--- src/lib.rt:148:13
--- fill: d8afda76
+-- src/lib.rt:182:13
+-- fill: 05d9f17c
 returns-2 : tie.Need-returns-2
 unfolding described
 returns-2 c = (
   rw (front (described _ _) _ _) (simp (
-    lt-leb _ _ (c .before .before .before .before .before .if1 .left),
-    ← c .before .before .before .row-of .ensures .0,
-    ← c .before .before .allows .ensures,
+    lt-leb _ _ (c .before .before .before .before .if1 .left),
+    ← c .before .before .may-stand .ensures,
     c .before .if2 .taken,
     lt-ltb _ _ (c .if3 .taken),
   )),
   search needs,
 )
 
--- src/lib.rt:150:36
+-- src/lib.rt:188:36
 add-true-length : tie.Need-add-true-length
 add-true-length c = search needs
 
--- src/lib.rt:150:13
+-- src/lib.rt:188:13
 true-length-requires : tie.Need-true-length-requires
 true-length-requires c κs = search needs
 
--- src/lib.rt:151:28
+-- src/lib.rt:189:28
 enum-known-l : tie.Need-enum-known-l
 enum-known-l c = search needs
 
--- src/lib.rt:152:40
+-- src/lib.rt:190:40
 enum-told : tie.Need-enum-told
 enum-told c = search needs
 
--- src/lib.rt:152:40
+-- src/lib.rt:190:40
 integer-refusal-requires : tie.Need-integer-refusal-requires
 integer-refusal-requires c κs = search needs
 
--- src/lib.rt:152:13
--- fill: 92d2ed01
+-- src/lib.rt:190:13
+-- fill: 68e001e0
 returns-3 : tie.Need-returns-3
 unfolding described
 returns-3 c = (
   rw (front (described _ _) _ _) (simp (
-    lt-leb _ _ (c .before .before .before .before .before .before .before .before .before .if1 .left),
-    ← c .before .before .before .before .before .before .before .row-of .ensures .0,
-    ← c .before .before .before .before .before .before .before .row-of .ensures .1 .0,
-    ← c .before .before .before .before .before .before .allows .ensures,
+    lt-leb _ _ (c .before .before .before .before .before .before .before .before .if1 .left),
+    ← c .before .before .before .before .before .before .may-stand .ensures,
     c .before .before .before .before .before .if2 .taken,
     le-ltb _ _ (c .before .before .before .before .if3 .left),
     ← c .before .before .before .true-length .ensures .0,
@@ -94,16 +86,14 @@ returns-3 c = (
   search needs,
 )
 
--- src/lib.rt:154:9
--- fill: 4ced2b5d
+-- src/lib.rt:192:9
+-- fill: f00ffb7e
 returns-4 : tie.Need-returns-4
 unfolding described
 returns-4 c = (
   rw (front (described _ _) _ _) (simp (
-    lt-leb _ _ (c .before .before .before .before .before .before .before .before .before .if1 .left),
-    ← c .before .before .before .before .before .before .before .row-of .ensures .0,
-    ← c .before .before .before .before .before .before .before .row-of .ensures .1 .0,
-    ← c .before .before .before .before .before .before .allows .ensures,
+    lt-leb _ _ (c .before .before .before .before .before .before .before .before .if1 .left),
+    ← c .before .before .before .before .before .before .may-stand .ensures,
     c .before .before .before .before .before .if2 .taken,
     le-ltb _ _ (c .before .before .before .before .if3 .left),
     ← c .before .before .before .true-length .ensures .0,
@@ -112,15 +102,14 @@ returns-4 c = (
   let i = rw (c .before .l .given .1) at (c .before .before .before .true-length .ensures .1) in (omega (arith, i), i .1),
 )
 
--- src/lib.rt:135:1
--- fill: 1c1d1eab
+-- src/lib.rt:167:1
+-- fill: 79ef67d9
 returns-5 : tie.Need-returns-5
 unfolding described
 returns-5 c = (
   rw (front (described _ _) _ _) (simp (
-    lt-leb _ _ (c .before .before .before .before .if1 .left),
-    ← c .before .before .row-of .ensures .0,
-    ← c .before .allows .ensures,
+    lt-leb _ _ (c .before .before .before .if1 .left),
+    ← c .before .may-stand .ensures,
     c .if2 .left,
   )),
   search needs,
@@ -132,10 +121,9 @@ descriptor-at-spec =
     (tie.spec
     returns
     shared-slice-read-d
-    row-of-requires
-    allows-requires
-    cast-t18
-    add-t19
+    may-stand-requires
+    cast-t17
+    add-t18
     returns-2
     add-true-length
     true-length-requires

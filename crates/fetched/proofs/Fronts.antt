@@ -1,13 +1,14 @@
--- What stands at the front of a list depends neither on what follows it nor on its label: integers, descriptors, values, fields.
--- Rests on values' definitions and on fetch's laws of what is there.
-use mathlib.Core.Path.{_≡_, refl}
-use mathlib.Core.List.{List, [], _∷_, _++_, append-assoc}
+-- What stands at the front of a list depends neither on what follows it nor on its label: integers, descriptors, values, fields, numbers,
+-- fixed fields. Rests on the definitions of values, vectors and the layout, and on proofs/Inside, Present and Bytes.
+use mathlib.Core.Path.{_≡_, refl, sym, _∙_, ap}
+use mathlib.Core.List.{List, [], _∷_, _++_, append-assoc, map}
 use mathlib.Core.Bool.{Bool, true, false}
-use Prim.Native.Nat.{ℕ, suc, _+_, _-_, _*_, _/_, _%_, _≤_}
+use Prim.Native.Nat.{ℕ, zero, suc, _+_, _-_, _*_, _/_, _%_, _≤_}
+use native.Mathlib.Nat.{suc-mul, suc-add, zero-add}
 use native.Mathlib.Omega.{arith}
 use lib.Dec.{ltb, leb, eqb}
 use lib.ListN.{length, take, drop, length-append}
-use lib.Seq.{length-take-le, take-at, drop-at, take-add}
+use lib.Seq.{length-take-le, take-at, drop-at, take-add, take-take, take-nil, take-append-le}
 use borrow.Author.Tests.{ltb-false, le-ltb, le-leb}
 use Rattle.words.specs.Pick.{pick}
 use Rattle.words.specs.Words.{number, outside}
@@ -16,15 +17,18 @@ use Rattle.types.specs.Elements.{shown}
 use Rattle.types.specs.declared.Use.{Use}
 use Rattle.types.specs.declared.Use.the-variants.{Key, Length}
 use Rattle.values.specs.Answers.{noInteger, one, noDescriptor, typed, integerInside}
-use Rattle.values.specs.Values.{integer, longEnough, trueLength, inDictionary, keyed, withLength, described, present}
+use Rattle.values.specs.Values.{integer, longEnough, trueLength, inDictionary, keyed, withLength, mayStand, described, present}
 use Rattle.values.specs.declared.Integer.{Integer}
 use Rattle.values.specs.declared.Integer.the-variants.{One, Refused as NoInteger}
 use Rattle.values.specs.declared.Descriptor.the-variants.{Typed}
 use Rattle.values.specs.declared.Value.the-variants.{Present}
+use Rattle.vectors.specs.Vectors.{numbers, shownNumbers}
+use Rattle.fixed.specs.Layout.{field}
 use Rattle.fetch.specs.Fetch.{paired}
 use Rattle.fetch.specs.declared.Found.the-variants.{Field}
+use Rattle.fetched.proofs.Bytes.{part-of}
 use Rattle.fetched.proofs.Inside.{integer-inside}
 use Rattle.fetched.proofs.Present.{present-typed, paired-keyed}
 
 -- the number at the front of a list is that of its bytes, whatever follows
 number-front : (w : ℕ) (l m : List ℕ) → w ≤ length l → number w (take w l ++ m) ≡ number w l
@@ -120,9 +124,9 @@ pub described-front : (role : Use) (at at′ : ℕ) (l m : List ℕ) (t n first 
 unfolding described
 described-front role at at′ [] m t n first h = cc
 described-front role at at′ (d ∷ rest) m t n first h =
-    by-tests (allowed (rowOf (d % 16)) role) (ltb (d / 16) 15) (trueLength (at + 1) rest) refl refl refl h
+    by-tests (mayStand role (d % 16) (d / 16)) (ltb (d / 16) 15) (trueLength (at + 1) rest) refl refl refl h
   where
-    by-tests : (a b : Bool) (i : Integer) → allowed (rowOf (d % 16)) role ≡ a → ltb (d / 16) 15 ≡ b → trueLength (at + 1) rest ≡ i
+    by-tests : (a b : Bool) (i : Integer) → mayStand role (d % 16) (d / 16) ≡ a → ltb (d / 16) 15 ≡ b → trueLength (at + 1) rest ≡ i
         → pick a (pick b (typed (d % 16) (d / 16) (at + 1)) (withLength (d % 16) i)) (noDescriptor 6 at) ≡ Typed t n first
         → described role at′ (take (first - at) (d ∷ rest) ++ m) ≡ Typed t n (at′ + (first - at))
     by-tests false b i p q r e = cc
@@ -178,3 +182,38 @@ paired-front vectors k role at at′ l els m key t n first stop h e =
     drop-at (take (q - at) l) rest (at′ + (q - at) - at′) (rw (length-take-le (q - at) l (omega arith)) (omega arith)) in
     let u : at′ + (q - at) + (first - q) ≡ at′ + (first - at) = omega arith in
     rw (split, integer-front Key at at′ l rest key q (r .number), j, present-front vectors k role q (at′ + (q - at)) (drop (q - at) l) els m t n first stop (r .value) e, u)
+
+-- past the front of a part that goes on behind it
+drop-take : {A : Type 0} (w k : ℕ) (l : List A) → drop w (take (w + k) l) ≡ take k (drop w l)
+drop-take zero k l = rw (zero-add k)
+drop-take {A} (suc w) k [] = rw (take-nil {A = A} (suc w + k), take-nil {A = A} k)
+drop-take (suc w) k (x ∷ l) = rw (suc-add w k) (drop-take w k l)
+
+-- numbers depend on their own bytes only
+pub numbers-take : (w n : ℕ) (l m : List ℕ) → take (n * w) l ≡ take (n * w) m → numbers w n l ≡ numbers w n m
+unfolding numbers number
+numbers-take w zero l m h = refl
+numbers-take w (suc n) l m h =
+    let e : suc n * w ≡ w + n * w = omega (arith, suc-mul n w) in
+    let k : take (w + n * w) l ≡ take (w + n * w) m = rw e at h in
+    let front : take w l ≡ take w m =
+    sym (take-take w (w + n * w) l (omega arith)) ∙ ap (take w) k ∙ take-take w (w + n * w) m (omega arith) in
+    let rest : take (n * w) (drop w l) ≡ take (n * w) (drop w m) = sym (drop-take w (n * w) l) ∙ ap (drop w) k ∙ drop-take w (n * w) m in
+    rw (front, numbers-take w n (drop w l) (drop w m) rest)
+
+pub shownNumbers-numbers : (t w n : ℕ) (l : List ℕ) → shownNumbers t w n l ≡ map (shown t) (numbers w n l)
+unfolding shownNumbers numbers
+shownNumbers-numbers t w zero l = refl
+shownNumbers-numbers t w (suc n) l = rw (shownNumbers-numbers t w n (drop w l))
+
+-- a field is its four bytes
+pub field-part : (p : ℕ) (l m : List ℕ) → take 4 (drop p l) ≡ take 4 (drop p m) → field p l ≡ field p m
+unfolding field number
+field-part p l m h = rw h
+
+pub field-take : (p n : ℕ) (l : List ℕ) → p + 4 ≤ n → field p (take n l) ≡ field p l
+field-take p n l h = field-part p (take n l) l (part-of l p 4 n h)
+
+pub field-append : (p : ℕ) (l m : List ℕ) → p + 4 ≤ length l → field p (l ++ m) ≡ field p l
+field-append p l m h =
+    sym (field-take p (p + 4) (l ++ m) (omega arith)) ∙ ap (field p) (take-append-le (p + 4) l m h) ∙ field-take p (p + 4) l (omega arith)
