@@ -22,11 +22,11 @@ use Rattle.people.specs.Choice.{ascending}
 use Rattle.choose.specs.Chosen.{chosenFields, keptFormats, chosenBlock, chosenRecord}
 use Rattle.people.proofs.Choice.{length-ascending}
 use Rattle.people.proofs.Sizes.{size-inside}
-use Rattle.fixed.proofs.Fits.{Fits, fits-fixed}
+use Rattle.fixed.proofs.Fits.{Fits, fits-fixed, people-given}
 use Rattle.choose.proofs.Written.{length-chosenRecord, size-block}
 use Rattle.chosen.specs.Releases.{forPeople, releasedSite}
 use Rattle.chosen.proofs.Blocks.{SameGt, no-gt, formats-none, formats-chosenFields}
-use Rattle.chosen.proofs.Sites.{drop-chosenSite, take-chosenRecord, drop-chosenRecord, people-given, fits-chosenRecord}
+use Rattle.chosen.proofs.Sites.{drop-chosenSite, take-chosenRecord, drop-chosenRecord, fits-chosenRecord}
 
 -- an accepted record's genotype block, for its own people
 own-genotypes : (f : Facts) (s : List ℕ) (t : Site) (g : Gt) → t .people ≡ f .people → genotypesOf f t s ≡ Sound g

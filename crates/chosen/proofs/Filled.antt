@@ -10,6 +10,7 @@ use Rattle.types.specs.declared.Use.the-variants.{Format}
 use Rattle.fixed.specs.Layout.{indivAt, peopleAt, idAt, membersOf, field}
 use Rattle.fixed.specs.declared.Facts.{Facts}
 use Rattle.fixed.specs.declared.Site.{Site}
+use Rattle.fixed.proofs.Fits.{people-given}
 use Rattle.genotypes.specs.Formats.{formats, noneOver}
 use Rattle.genotypes.specs.declared.Gt.{Gt}
 use Rattle.genotypes.specs.declared.Genotypes.the-variants.{Sound}
@@ -19,7 +20,6 @@ use Rattle.record.proofs.Accepted.{accepted, accepted-fits}
 use Rattle.fetch.specs.Fetch.{paired}
 use Rattle.fetch.specs.declared.Found.the-variants.{Field}
 use Rattle.fetched.proofs.FormatFields.{formats-field}
-use Rattle.chosen.proofs.Sites.{people-given}
 
 -- a FORMAT field at the front of a list that is there, and what holds of the rest
 pub record Fill (people at : ℕ) (l : List ℕ) (After : ℕ → List ℕ → Type 0) : Type 0 where

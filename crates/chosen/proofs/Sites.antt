@@ -2,14 +2,12 @@
 -- proofs/Sets, and choose's facts about the front.
 use mathlib.Core.Path.{_≡_, refl, _∙_}
 use mathlib.Core.List.{List, [], _∷_}
-use mathlib.Core.Bool.{Bool, true, false}
+use mathlib.Core.Bool.{false}
 use Prim.Native.Nat.{ℕ, suc, _+_, _-_, _≤_, _<_, _^_}
 use native.Mathlib.Omega.{arith}
-use lib.Dec.{eqb, ltb}
 use lib.ListN.{length, take, drop}
 use lib.Seq.{sets, length-sets, length-take-le, take-at, drop-at}
-use borrow.Author.Tests.{ltb-false, eqb-true, eq-eqb, ne-eqb}
-use Rattle.words.specs.Pick.{pick}
+use borrow.Author.Tests.{eq-eqb, ne-eqb}
 use Rattle.words.specs.Words.{bytes, Bytes}
 use Rattle.words.proofs.Words.{length-bytes}
 use Rattle.fixed.specs.Layout.{indivAt, chromAt, posAt, rlenAt, countsAt, peopleAt, qualAt, idAt, membersOf, field, peopleWrong}
@@ -87,16 +85,6 @@ field-chosenRecord t cs s p h k =
     let n = length (chosenBlock t cs s) in
     let e = length-chosenSite t cs n s h in
     field-append p (chosenSite t cs n s) (chosenBlock t cs s) (omega arith)
-
--- the people are as many as are given, and of nobody there are no FORMAT fields
-pub people-given : (given formats people : ℕ) → peopleWrong given formats people ≡ false → (people ≡ given) × (people ≡ 0 → formats ≡ 0)
-unfolding peopleWrong
-people-given given formats people h = by-test (eqb people given) refl h
-  where
-    by-test : (b : Bool) → eqb people given ≡ b → pick b (pick (eqb people 0) (ltb 0 formats) false) true ≡ false
-        → (people ≡ given) × (people ≡ 0 → formats ≡ 0)
-    by-test true e k = (eqb-true people given e, λ z. let o = ltb-false 0 formats (rw (eq-eqb people 0 z) at k) in omega arith)
-    by-test false e k = let z : _≡_ {A = ℕ} 0 1 = cc in absurd (omega arith)
 
 people-right : (cs : List ℕ) (formats : ℕ) → peopleWrong (length cs) (keptFormats cs formats) (length cs) ≡ false
 unfolding peopleWrong

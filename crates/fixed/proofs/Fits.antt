@@ -6,7 +6,7 @@ use Prim.Native.Nat.{ℕ, _+_, _≤_, _<_}
 use native.Mathlib.Omega.{arith}
 use lib.Dec.{ltb, eqb}
 use lib.ListN.{length}
-use borrow.Author.Tests.{ltb-false, le-ltb, eqb-true}
+use borrow.Author.Tests.{ltb-false, le-ltb, eqb-true, eq-eqb}
 use Rattle.words.specs.Pick.{pick}
 use Rattle.words.specs.Words.{outside}
 use Rattle.values.specs.declared.Refusal.{Refusal}
@@ -182,3 +182,13 @@ fits-fixed f s t x =
       x .formats,
       x .people,
     )
+
+-- the people are as many as are given, and of nobody there are no FORMAT fields
+pub people-given : (given formats people : ℕ) → peopleWrong given formats people ≡ false → (people ≡ given) × (people ≡ 0 → formats ≡ 0)
+unfolding peopleWrong
+people-given given formats people h = by-test (eqb people given) refl h
+  where
+    by-test : (b : Bool) → eqb people given ≡ b → pick b (pick (eqb people 0) (ltb 0 formats) false) true ≡ false
+        → (people ≡ given) × (people ≡ 0 → formats ≡ 0)
+    by-test true e k = (eqb-true people given e, λ z. let o = ltb-false 0 formats (rw (eq-eqb people 0 z) at k) in omega arith)
+    by-test false e k = let z : _≡_ {A = ℕ} 0 1 = cc in absurd (omega arith)

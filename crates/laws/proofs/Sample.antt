@@ -1,6 +1,7 @@
 -- The sample record is computed. Rests on specs/Sample.
 use mathlib.Core.Path.{_≡_, refl}
-use Prim.Native.Nat.{_≤_}
+use mathlib.Core.List.{List, []}
+use Prim.Native.Nat.{ℕ, _≤_}
 use native.Mathlib.Omega.{arith}
 use lib.ListN.{length}
 use Rattle.words.specs.Lists.{among}
@@ -18,7 +19,7 @@ use Rattle.site.specs.Filters.{filters, filtered, filter}
 use Rattle.site.specs.Site.{info, site}
 use Rattle.genotypes.specs.Formats.{roleOf, gtNow, formats}
 use Rattle.record.specs.Reading.{siteOf, genotypesOf, reading}
-use Rattle.record.specs.Shown.{elementsOf, pairsShown, fieldsShown, allelesThen, nothing, shownOf}
+use Rattle.record.specs.Shown.{Pair, Field, integers, elementsOf, pairsShown, fieldsShown, allelesThen, nothing, shownOf}
 use Rattle.calls.specs.Calls.{slots, alleleOf, alleles, people, called, without, howMany, counters, tally, peopleOf, counted}
 use Rattle.tally.specs.Tally.{callsOf, tallied}
 use Rattle.decimal.specs.Decimal.{written, decimal}
@@ -30,18 +31,29 @@ use Rattle.append.specs.Values.{givenBytes, pairBytes}
 use Rattle.front.specs.Front.{fieldsNumber, frontBytes, fieldsFilled}
 use Rattle.rules.specs.Rules.{keyNumber}
 use Rattle.rules.specs.Values.{givenNumber}
-use Rattle.built.specs.Records.{joined, siteBytes, genotypeBytes, filledFront, recordBytes, Keeps}
+use Rattle.built.specs.Records.{joined, siteBytes, genotypeBytes, filledFront, recordBytes, All, Fit, KeepsInfo, KeepsFields, Keeps}
 use Rattle.built.proofs.Builds.{keeps-tight}
-use Rattle.laws.specs.Sample.{Sample, facts, sample, sampleShown}
+use Rattle.laws.specs.Sample.{Sample, facts, sample, showing, sampleShown}
 
 -- what it shows keeps the rules, and is written as its bytes
 sample-bytes : recordBytes (facts .people) sampleShown ≡ sample
 unfolding sample bytes rowOf widthOf kind marked narrowest integerBytes descriptorBytes widest markedAs narrowed elementsBytes valueBytes givenBytes pairBytes frontBytes fieldsFilled joined siteBytes genotypeBytes filledFront recordBytes
 sample-bytes = refl
 
-sample-keeps : Keeps facts sampleShown
-unfolding sample among outside kind marked vector alleleBytes filters highest codeMost roleOf posWrong qualWrong vectorsGiven elementsNumber filtersNumber alleleNumber givenNumber fieldsNumber keyNumber
-sample-keeps =
+-- filters, INFO pairs and FORMAT fields that keep the rules, beside the sample's other fields
+pub record KeepsRest (filters : List ℕ) (infos : List Pair) (formats : List Field) : Type 0 where
+  pub filters-fit : Fit integers filters
+  pub filters-rules : filtersNumber (facts .strings) filters ≡ 0
+  pub infos-most : length infos ≤ 65535
+  pub infos-keep : All (KeepsInfo (facts .strings)) infos
+  pub formats-most : length formats ≤ 255
+  pub formats-keep : KeepsFields facts 2 [] formats
+  pub most : length (recordBytes (facts .people) (showing filters infos formats)) ≤ mostBytes
+
+pub showing-keeps : (filters : List ℕ) (infos : List Pair) (formats : List Field) → KeepsRest filters infos formats
+    → Keeps facts (showing filters infos formats)
+unfolding outside kind marked vector alleleBytes posWrong qualWrong vectorsGiven elementsNumber alleleNumber givenNumber fieldsNumber
+showing-keeps filters infos formats k =
     record {
       bits = (omega arith, omega arith, omega arith, omega arith);
       fields = refl;
@@ -50,13 +62,27 @@ sample-keeps =
       some = omega arith;
       alleles-most = omega arith;
       alleles = (record { fit = (omega arith, tt); some = refl; rules = refl }, (record { fit = (omega arith, tt); some = refl; rules = refl }, tt));
-      filters-fit = (omega arith, tt);
-      filters = refl;
-      infos-most = omega arith;
-      infos = (record { fit = (omega arith, tt); key = omega arith; inside = refl; rules = refl }, tt);
-      formats-most = omega arith;
+      filters-fit = k .filters-fit;
+      filters = k .filters-rules;
+      infos-most = k .infos-most;
+      infos = k .infos-keep;
+      formats-most = k .formats-most;
       people = λ _. omega arith;
-      formats = (
+      formats = k .formats-keep;
+      most = k .most;
+    }
+
+sample-keeps : Keeps facts sampleShown
+unfolding sample among outside kind marked vector filters highest codeMost roleOf vectorsGiven elementsNumber filtersNumber givenNumber keyNumber
+sample-keeps =
+    showing-keeps _ _ _
+    (record {
+      filters-fit = (omega arith, tt);
+      filters-rules = refl;
+      infos-most = omega arith;
+      infos-keep = (record { fit = (omega arith, tt); key = omega arith; inside = refl; rules = refl }, tt);
+      formats-most = omega arith;
+      formats-keep = (
         record {
           fit = (omega arith, (omega arith, (omega arith, (omega arith, tt))));
           key = omega arith;
@@ -69,7 +95,7 @@ sample-keeps =
         tt,
       );
       most = rw sample-bytes short;
-    }
+    })
   where
     short : length sample ≤ mostBytes
     short = omega arith

@@ -21,7 +21,7 @@ second = chosenRecord sampleSite (1 ∷ []) sample
 
 pub record Cut : Type 0 where
   -- l_indiv is 5, there is one person, and GT is `04 81`; all other bytes stand as they did
-  pub bytes : second ≡ sampleFront 5 1 1 ++ (sampleFields ++ (0x11 ∷ 0x03 ∷ 0x21 ∷ 0x04 ∷ 0x81 ∷ []))
+  pub bytes : second ≡ sampleFront 0x23 5 1 1 ++ (sampleFields ++ (0x11 ∷ 0x03 ∷ 0x21 ∷ 0x04 ∷ 0x81 ∷ []))
   pub gt : fetched (forPeople 1 facts) Format 0 second ≡ 0x04 ∷ 0x81 ∷ []
   -- no call of allele 0 and one of allele 1
   pub tally : tallied (forPeople 1 facts) second
@@ -29,7 +29,7 @@ pub record Cut : Type 0 where
   -- the two people are a division; everybody: the same bytes; nobody: l_indiv 0, no FORMAT field, no people
   pub divided : Division 2 (0 ∷ []) (1 ∷ [])
   pub everybody : chosenRecord sampleSite (0 ∷ 1 ∷ []) sample ≡ sample
-  pub nobody : chosenRecord sampleSite [] sample ≡ sampleFront 0 0 0 ++ sampleFields
+  pub nobody : chosenRecord sampleSite [] sample ≡ sampleFront 0x23 0 0 0 ++ sampleFields
   -- the answers: the length; 13 for one byte less of room; 14 for a person twice, a person too high, and whatever the room
   pub chosen : choosing facts (1 ∷ []) 48 sample ≡ Chosen 48
   pub short : choosing facts (1 ∷ []) 47 sample ≡ Refused (refusal 13 0)

@@ -1,4 +1,6 @@
 pub mod Answers
+pub mod Bare
+pub mod BareSample
 pub mod Building
 pub mod Choosing
 pub mod Cut

@@ -8,7 +8,7 @@ use Rattle.fixed.specs.declared.Facts.{Facts}
 use Rattle.fixed.specs.declared.Site.{Site}
 use Rattle.genotypes.specs.Formats.{gtAt}
 use Rattle.record.specs.Reading.{reading}
-use Rattle.record.specs.Shown.{Shown, shownOf, integers}
+use Rattle.record.specs.Shown.{Shown, Pair, Field, shownOf, integers}
 use Rattle.record.specs.declared.Reading.the-variants.{Accepted}
 use Rattle.tally.specs.Tally.{tallied}
 use Rattle.tally.specs.declared.Counting.the-variants.{Counted}
@@ -20,10 +20,10 @@ use Rattle.built.specs.Builds.{Tight}
 abbrev pub facts : Facts
 facts = record { strings = 4; contigs = 1; people = 2; gt = 3 }
 
--- the first 32 bytes, with a given l_indiv, FORMAT fields and people; then ID, alleles, FILTER and INFO
-abbrev pub sampleFront : ℕ → ℕ → ℕ → List ℕ
-sampleFront indiv formats people =
-    0x23 ∷ 0 ∷ 0 ∷ 0 ∷ indiv ∷ 0 ∷ 0 ∷ 0 ∷ 0 ∷ 0 ∷ 0 ∷ 0 ∷ 0x21 ∷ 0x38 ∷ 0 ∷ 0 ∷ 0x01 ∷ 0 ∷ 0 ∷ 0 ∷
+-- the first 32 bytes, with given block lengths, FORMAT fields and people; then ID, alleles, FILTER and INFO
+abbrev pub sampleFront : ℕ → ℕ → ℕ → ℕ → List ℕ
+sampleFront shared indiv formats people =
+    shared ∷ 0 ∷ 0 ∷ 0 ∷ indiv ∷ 0 ∷ 0 ∷ 0 ∷ 0 ∷ 0 ∷ 0 ∷ 0 ∷ 0x21 ∷ 0x38 ∷ 0 ∷ 0 ∷ 0x01 ∷ 0 ∷ 0 ∷ 0 ∷
     0 ∷ 0 ∷ 0xE8 ∷ 0x41 ∷ 0x01 ∷ 0 ∷ 0x02 ∷ 0 ∷ people ∷ 0 ∷ 0 ∷ formats ∷ []
 
 abbrev pub sampleFields : List ℕ
@@ -31,13 +31,14 @@ sampleFields = 0x07 ∷ 0x17 ∷ 0x47 ∷ 0x17 ∷ 0x41 ∷ 0x11 ∷ 0 ∷ 0x11 
 
 -- and GT of two people
 unfoldable pub sample : List ℕ
-sample = sampleFront 7 1 2 ++ (sampleFields ++ (0x11 ∷ 0x03 ∷ 0x21 ∷ 0x02 ∷ 0x03 ∷ 0x04 ∷ 0x81 ∷ []))
+sample = sampleFront 0x23 7 1 2 ++ (sampleFields ++ (0x11 ∷ 0x03 ∷ 0x21 ∷ 0x02 ∷ 0x03 ∷ 0x04 ∷ 0x81 ∷ []))
 
-abbrev pub sampleSite : Site
-sampleSite =
+-- its site, for a border and a length
+abbrev pub siteTo : ℕ → ℕ → Site
+siteTo border length =
     record {
-      length = 50;
-      border = 43;
+      length = length;
+      border = border;
       chrom = 0;
       pos = 0x3821;
       rlen = 1;
@@ -48,9 +49,12 @@ sampleSite =
       people = 2;
     }
 
--- no ID, alleles G and A, the filter at offset 0, INFO 2 is 14, and GT is 02 03 and 04 with an end of vector
-abbrev pub sampleShown : Shown
-sampleShown =
+abbrev pub sampleSite : Site
+sampleSite = siteTo 43 50
+
+-- no ID, alleles G and A, and the filters, INFO pairs and FORMAT fields that are given
+abbrev pub showing : List ℕ → List Pair → List Field → Shown
+showing filters infos formats =
     record {
       chrom = 0;
       pos = 0x3821;
@@ -58,10 +62,16 @@ sampleShown =
       qual = 0x41E80000;
       id = [];
       alleles = (0x47 ∷ []) ∷ (0x41 ∷ []) ∷ [];
-      filters = 0 ∷ [];
-      infos = record { key = 2; value = record { kind = integers; elements = 14 ∷ [] } } ∷ [];
-      formats = record { key = 3; len = 2; value = record { kind = integers; elements = 2 ∷ 3 ∷ 4 ∷ 0x80000001 ∷ [] } } ∷ [];
+      filters = filters;
+      infos = infos;
+      formats = formats;
     }
+
+-- the filter at offset 0, INFO 2 is 14, and GT is 02 03 and 04 with an end of vector
+abbrev pub sampleShown : Shown
+sampleShown =
+    showing (0 ∷ []) (record { key = 2; value = record { kind = integers; elements = 14 ∷ [] } } ∷ [])
+    (record { key = 3; len = 2; value = record { kind = integers; elements = 2 ∷ 3 ∷ 4 ∷ 0x80000001 ∷ [] } } ∷ [])
 
 pub record Sample : Type 0 where
   -- accepted: 50 bytes, two alleles, one INFO pair, one FORMAT field, two people; GT is of type 1, two slots a person, from byte 46 on

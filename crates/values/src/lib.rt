@@ -207,10 +207,10 @@ pub fn has_room(first: usize, count: usize, w: usize, end: usize) -> bool
     if end < first {
         return false;
     }
-    if w == 0 {
-        return true;
+    if 0 < w {
+        return count <= (end - first) / w;
     }
-    count <= (end - first) / w
+    true
 }
 
 // The value at a place with its elements, as many for each of `vectors` people (1 where there are none).

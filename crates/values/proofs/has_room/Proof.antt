@@ -11,17 +11,17 @@ use Rattle.values.proofs.has_room.Lts as lts
 returns : tie.Need-returns
 returns c = fits-before _ _ _ _ (c .if1 .taken)
 
--- src/lib.rt:199:9
-returns-2 : tie.Need-returns-2
-returns-2 c = fits-none _ _ _ _ (c .if2 .taken) (c .before .if1 .left)
-
 -- src/lib.rt:201:14
 div-result : tie.Need-div-result
 div-result c = search needs
 
 -- src/lib.rt:192:1
+returns-2 : tie.Need-returns-2
+returns-2 c = fits-over _ _ _ _ (c .if2 .taken) (c .before .if1 .left)
+
+-- src/lib.rt:192:1
 returns-3 : tie.Need-returns-3
-returns-3 c = fits-over _ _ _ _ (omega arith) (c .before .if1 .left)
+returns-3 c = let none = c .if2 .left in fits-none _ _ _ _ (omega arith) (c .before .if1 .left)
 
 pub has-room-spec : {M : Type 1} → statement M
-has-room-spec = tie.close (tie.spec returns returns-2 div-result returns-3)
+has-room-spec = tie.close (tie.spec returns div-result returns-2 returns-3)

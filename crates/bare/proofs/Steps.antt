@@ -1,0 +1,235 @@
+-- Steps through the site block whose bare 00 become 01: each comes to the same place, before what becomes of the rest. Rests on proofs/Values
+-- and on the definitions of site.
+use mathlib.Core.Path.{_≡_, refl, sym, _∙_, ap}
+use mathlib.Core.List.{List, [], _∷_, _++_}
+use mathlib.Core.Bool.{Bool, true, false}
+use Prim.Native.Nat.{ℕ, zero, suc, _+_, _-_, _<_, _≤_}
+use native.Mathlib.Omega.{arith}
+use native.Mathlib.Nat.{sub-self, zero-div}
+use lib.Dec.{eqb}
+use borrow.Author.Tests.{eqb-true}
+use lib.ListN.{length, take, drop, length-drop}
+use lib.Seq.{length-take-le, drop-at}
+use Rattle.words.specs.Pick.{pick}
+use Rattle.types.specs.Rows.{widthOf}
+use Rattle.types.specs.declared.Use.{Use}
+use Rattle.types.specs.declared.Use.the-variants.{Id, Allele, Filter, Key, Info}
+use Rattle.values.specs.Answers.{integerInside}
+use Rattle.values.specs.Values.{integer, keyed, present}
+use Rattle.values.specs.declared.Integer.{Integer}
+use Rattle.values.specs.declared.Integer.the-variants.{One, Refused as NoInteger}
+use Rattle.values.specs.declared.Value.{Value}
+use Rattle.values.specs.declared.Value.the-variants.{Present, Refused as NoValue}
+use Rattle.vectors.specs.Vectors.{shownNumbers}
+use Rattle.vectors.specs.Sound.{sound}
+use Rattle.vectors.specs.declared.Judged.{Judged}
+use Rattle.vectors.specs.declared.Judged.the-variants.{Sound, Refused as Unsound}
+use Rattle.site.specs.Steps.{then, times, valueStep, judgedStep, noStep, ended}
+use Rattle.site.specs.Alleles.{allele, alleleValue, alleleBytes}
+use Rattle.site.specs.Filters.{filters, filtered, filterValue, filter}
+use Rattle.site.specs.Site.{info, infoValue, site}
+use Rattle.site.specs.declared.Step.{Step}
+use Rattle.site.specs.declared.Step.the-variants.{At, Refused as NoStep}
+use Rattle.fetched.proofs.Agree.{sound-there, allele-value, filter-value, went}
+use Rattle.fetched.proofs.FormatFields.{keyed-integer}
+use Rattle.fetched.proofs.Fronts.{keyed-front}
+use Rattle.fetched.proofs.Inside.{keyed-inside, present-inside, drop-past}
+use Rattle.bare.specs.Ones.{Rest, asItIs, oneFor, codeFor, valueOne, pairOne, repeated, siteOnes}
+use Rattle.bare.proofs.Values.{present-zero, present-ones, sound-ones, part-ones, drop-ones}
+
+-- a step that comes to the same place in what becomes of the block, and behind it stands what becomes of the rest
+abbrev pub Passes : (ℕ → List ℕ → Step) → (Rest → Rest) → Type 0
+Passes step one =
+    (rest : Rest) (at : ℕ) (l : List ℕ) (q : ℕ) → step at l ≡ At q
+    → (step at (one rest at l) ≡ At q) × (drop (q - at) (one rest at l) ≡ rest q (drop (q - at) l)) × (at ≤ q)
+
+-- what becomes of a value that is there, and what stands behind it
+pub valueOne-there : (vectors : ℕ) (role : Use) (rest : Rest) (at : ℕ) (l : List ℕ) (t n first stop : ℕ)
+    → present vectors role at l ≡ Present t n first stop
+    → valueOne vectors role rest at l ≡ oneFor (take (stop - at) l) ++ rest stop (drop (stop - at) l)
+unfolding valueOne
+valueOne-there vectors role rest at l t n first stop h = rw h
+
+drop-valueOne : (vectors : ℕ) (role : Use) (rest : Rest) (at : ℕ) (l : List ℕ) (t n first stop : ℕ)
+    → present vectors role at l ≡ Present t n first stop → drop (stop - at) (valueOne vectors role rest at l) ≡ rest stop (drop (stop - at) l)
+drop-valueOne vectors role rest at l t n first stop h =
+    let i = rw h at (present-inside vectors role at l) in
+    ap (drop (stop - at)) (valueOne-there vectors role rest at l t n first stop h)
+    ∙ drop-ones at stop l (rest stop (drop (stop - at) l)) (omega (arith, i .0, i .1)) (i .2)
+
+-- so many steps
+pub times-passes : (step : ℕ → List ℕ → Step) (one : Rest → Rest) → Passes step one → (n : ℕ) → Passes (times step n) (repeated one n)
+unfolding times repeated
+times-passes step one f zero rest at l q h =
+    let e : at ≡ q = cc in
+    (h, rw (← e, sub-self at), omega arith)
+times-passes step one f (suc n) rest at l q h =
+    let w = went at l (step at l) (times step n) h in
+    let p = w .place in
+    let l1 = drop (p - at) l in
+    let new = one (repeated one n rest) at l in
+    let a = f (repeated one n rest) at l p (w .here) in
+    let b = times-passes step one f n rest p l1 q (w .on) in
+    let behind = sym (drop-past new at p q (a .2) (b .2)) ∙ ap (drop (q - p)) (a .1) ∙ b .1 ∙ ap (rest q) (drop-past l at p q (a .2) (b .2)) in
+    (rw (a .0, a .1) (b .0), behind, omega (arith, a .2, b .2))
+
+-- a step, and then what goes on from where it came to
+then-passes : (step : ℕ → List ℕ → Step) (one : Rest → Rest) (next : ℕ → List ℕ → Step) (rest : Rest) → Passes step one
+    → ((q : ℕ) (m : List ℕ) (e : ℕ) → next q m ≡ At e → next q (rest q m) ≡ At e) → (at : ℕ) (l : List ℕ) (e : ℕ)
+    → then at l (step at l) next ≡ At e → then at (one rest at l) (step at (one rest at l)) next ≡ At e
+then-passes step one next rest f on at l e h =
+    let w = went at l (step at l) next h in
+    let a = f rest at l (w .place) (w .here) in
+    rw (a .0, a .1) (on (w .place) (drop (w .place - at) l) e (w .on))
+
+-- ID
+id-passes : Passes (λ at l. valueStep (sound 1 0 Id at l)) (valueOne 1 Id)
+id-passes rest at l q h = by-value (sound 1 0 Id at l) refl h
+  where
+    by-value : (v : Value) → sound 1 0 Id at l ≡ v → valueStep v ≡ At q
+        → (valueStep (sound 1 0 Id at (valueOne 1 Id rest at l)) ≡ At q) × (drop (q - at) (valueOne 1 Id rest at l) ≡ rest q (drop (q - at) l)) × (at ≤ q)
+    by-value (NoValue r) p e = let z : _≡_ {A = ℕ} 0 1 = cc in absurd (omega arith)
+    by-value (Present t n first stop) p e =
+        let there = sound-there 1 0 Id at l t n first stop p in
+        let i = rw there at (present-inside 1 Id at l) in
+        let k : stop ≡ q = cc in
+        let behind = drop-valueOne 1 Id rest at l t n first stop there in (
+          rw (valueOne-there 1 Id rest at l t n first stop there, sound-ones 1 0 Id at l (rest stop (drop (stop - at) l)) t n first stop p, k),
+          rw k at behind,
+          omega (arith, i .0, i .1),
+        )
+
+-- an allele
+allele-passes : Passes allele (valueOne 1 Allele)
+unfolding allele
+allele-passes rest at l q h = by-value (present 1 Allele at l) refl h
+  where
+    new : List ℕ
+    new = valueOne 1 Allele rest at l
+
+    by-value : (v : Value) → present 1 Allele at l ≡ v → alleleValue at l v ≡ At q
+        → (alleleValue at new (present 1 Allele at new) ≡ At q) × (drop (q - at) new ≡ rest q (drop (q - at) l)) × (at ≤ q)
+    by-value (NoValue r) p e = let z : _≡_ {A = ℕ} 0 1 = cc in absurd (omega arith)
+    by-value (Present t n first stop) p e =
+        let i = rw p at (present-inside 1 Allele at l) in
+        let passed = allele-value at l (Present t n first stop) e in
+        let k : stop ≡ q = cc in
+        let behind = drop-valueOne 1 Allele rest at l t n first stop p in
+        let m = rest stop (drop (stop - at) l) in (
+          rw (
+            valueOne-there 1 Allele rest at l t n first stop p,
+            present-ones 1 Allele at l m t n first stop p,
+            part-ones at first stop l m (i .0) (i .1) (i .2),
+          ) e,
+          rw k at behind,
+          omega (arith, i .0, i .1),
+        )
+
+-- FILTER
+filtered-none : (strings t : ℕ) → filtered strings t [] ≡ Sound
+unfolding filtered filters shownNumbers
+filtered-none strings t = rw (zero-div (widthOf t))
+
+filtered-ones : (strings at : ℕ) (l : List ℕ) (t n first stop : ℕ) → present 1 Filter at l ≡ Present t n first stop
+    → filtered strings (codeFor t) (take (stop - first) (drop (first - at) l)) ≡ filtered strings t (take (stop - first) (drop (first - at) l))
+filtered-ones strings at l t n first stop h = by-type (eqb t 0) refl
+  where
+    part : List ℕ
+    part = take (stop - first) (drop (first - at) l)
+
+    by-type : (b : Bool) → eqb t 0 ≡ b → filtered strings (pick b 1 t) part ≡ filtered strings t part
+    by-type true e =
+        let z = eqb-true t 0 e in
+        let b = present-zero 1 Filter at l n first stop (rw z at h) in
+        let none : stop - first ≡ 0 = omega (arith, b .1) in
+        rw (none, filtered-none strings 1, filtered-none strings t)
+    by-type false e = refl
+
+filter-passes : (strings : ℕ) → Passes (filter strings) (valueOne 1 Filter)
+unfolding filter
+filter-passes strings rest at l q h = by-value (present 1 Filter at l) refl h
+  where
+    new : List ℕ
+    new = valueOne 1 Filter rest at l
+
+    by-value : (v : Value) → present 1 Filter at l ≡ v → filterValue strings at l v ≡ At q
+        → (filterValue strings at new (present 1 Filter at new) ≡ At q) × (drop (q - at) new ≡ rest q (drop (q - at) l)) × (at ≤ q)
+    by-value (NoValue r) p e = let z : _≡_ {A = ℕ} 0 1 = cc in absurd (omega arith)
+    by-value (Present t n first stop) p e =
+        let i = rw p at (present-inside 1 Filter at l) in
+        let passed = filter-value strings at l (Present t n first stop) e in
+        let k : stop ≡ q = cc in
+        let behind = drop-valueOne 1 Filter rest at l t n first stop p in
+        let m = rest stop (drop (stop - at) l) in (
+          rw (
+            valueOne-there 1 Filter rest at l t n first stop p,
+            present-ones 1 Filter at l m t n first stop p,
+            part-ones at first stop l m (i .0) (i .1) (i .2),
+            filtered-ones strings at l t n first stop p,
+          ) e,
+          rw k at behind,
+          omega (arith, i .0, i .1),
+        )
+
+-- a key that is there, as it is, before what becomes of its value
+pub pairOne-there : (vectors : ℕ) (role : Use) (rest : Rest) (at : ℕ) (l : List ℕ) (key next : ℕ) → integer Key at l ≡ One key next
+    → pairOne vectors role rest at l ≡ take (next - at) l ++ valueOne vectors role rest next (drop (next - at) l)
+unfolding pairOne
+pairOne-there vectors role rest at l key next h = rw h
+
+-- an INFO pair
+info-passes : (strings : ℕ) → Passes (info strings) (pairOne 1 Info)
+unfolding info
+info-passes strings rest at l q h = by-key (keyed strings at l) refl (keyed-inside strings at l) h
+  where
+    new : List ℕ
+    new = pairOne 1 Info rest at l
+
+    by-value : (key next : ℕ) (v : Value) → keyed strings at l ≡ One key next → at < next → next ≤ at + length l
+        → sound 1 0 Info next (drop (next - at) l) ≡ v → valueStep v ≡ At q
+        → (infoValue at new (keyed strings at new) ≡ At q) × (drop (q - at) new ≡ rest q (drop (q - at) l)) × (at ≤ q)
+    by-value key next (NoValue r) p a b s e = let z : _≡_ {A = ℕ} 0 1 = cc in absurd (omega arith)
+    by-value key next (Present t n first stop) p a b s e =
+        let l1 = drop (next - at) l in
+        let there = sound-there 1 0 Info next l1 t n first stop s in
+        let i = rw there at (present-inside 1 Info next l1) in
+        let k : stop ≡ q = cc in
+        let m = valueOne 1 Info rest next l1 in
+        let split = pairOne-there 1 Info rest at l key next (keyed-integer strings at l key next p) in
+        let here : at + (next - at) ≡ next = omega arith in
+        let value : drop (next - at) (take (next - at) l ++ m) ≡ m = drop-at (take (next - at) l) m (next - at) (length-take-le (next - at) l (omega arith)) in
+        let behind : drop (stop - at) (take (next - at) l ++ m) ≡ rest stop (drop (stop - at) l) =
+        sym (drop-past (take (next - at) l ++ m) at next stop (omega arith) (omega (arith, i .0, i .1))) ∙ ap (drop (stop - next)) value
+        ∙ drop-valueOne 1 Info rest next l1 t n first stop there ∙ ap (rest stop) (drop-past l at next stop (omega arith) (omega (arith, i .0, i .1))) in
+        let front = keyed-front strings at at l m key next p in (
+          rw (
+            split,
+            front,
+            here,
+            value,
+            valueOne-there 1 Info rest next l1 t n first stop there,
+            sound-ones 1 0 Info next l1 (rest stop (drop (stop - next) l1)) t n first stop s,
+          ) (ap At k),
+          rw split (rw k at behind),
+          omega (arith, i .0, i .1),
+        )
+
+    by-key : (i : Integer) → keyed strings at l ≡ i → integerInside at (at + length l) i → infoValue at l i ≡ At q
+        → (infoValue at new (keyed strings at new) ≡ At q) × (drop (q - at) new ≡ rest q (drop (q - at) l)) × (at ≤ q)
+    by-key (NoInteger r) p k e = let z : _≡_ {A = ℕ} 0 1 = cc in absurd (omega arith)
+    by-key (One key next) p k e = by-value key next (sound 1 0 Info next (drop (next - at) l)) p (k .0) (k .1) refl e
+
+-- the law: a site block that is read to its last byte is so with 01 in place of each bare 00
+pub site-ones : (strings alleles infos at : ℕ) (l : List ℕ) (e : ℕ) → site strings alleles infos at l ≡ At e
+    → site strings alleles infos at (siteOnes alleles infos at l) ≡ At e
+unfolding site siteOnes
+site-ones strings alleles infos at l e h =
+    then-passes (λ at l. valueStep (sound 1 0 Id at l)) (valueOne 1 Id) _ _ id-passes
+    (λ p fromAlleles. then-passes (times allele alleles) (repeated (valueOne 1 Allele) alleles) _ _ (times-passes allele (valueOne 1 Allele) allele-passes alleles)
+    (λ q fromFilter. then-passes (filter strings) (valueOne 1 Filter) _ _ (filter-passes strings)
+    (λ r fromInfo. then-passes (times (info strings) infos) (repeated (pairOne 1 Info) infos) _ _
+    (times-passes (info strings) (pairOne 1 Info) (info-passes strings) infos)
+    (λ x m e k. k) r fromInfo)
+    q fromFilter)
+    p fromAlleles)
+    at l e h

@@ -1,0 +1,260 @@
+-- A value whose descriptor 00 becomes 01: where it stands, what it holds and whether it is sound stay, and of its type 0 becomes 1.
+-- Rests on specs/Ones and on fetched's laws of what stands at a front.
+use mathlib.Core.Path.{_≡_, refl, sym, _∙_, ap}
+use mathlib.Core.List.{List, [], _∷_, _++_, append-assoc}
+use mathlib.Core.Logic.{_≢_}
+use mathlib.Core.Bool.{Bool, true, false}
+use Prim.Native.Nat.{ℕ, zero, suc, _+_, _-_, _*_, _/_, _%_, _<_, _≤_}
+use native.Mathlib.Omega.{arith}
+use native.Mathlib.Nat.{mul-zero, zero-mul, zero-div, div-mul-le-self}
+use lib.Dec.{eqb, ltb, leb}
+use lib.ListN.{length, take, drop, length-append, length-take, length-drop}
+use lib.Seq.{length-take-le, take-at, drop-at, take-take}
+use borrow.Author.Tests.{eqb-true, eqb-false, ltb-false, ne-eqb, le-leb}
+use Rattle.words.specs.Pick.{pick}
+use Rattle.types.specs.Rows.{rowOf, widthOf, allowed}
+use Rattle.types.specs.declared.Use.{Use}
+use Rattle.types.specs.declared.Use.the-variants.{Id, Allele, Filter, Key, Length, Info, Format, Gt}
+use Rattle.values.specs.Answers.{noDescriptor, typed}
+use Rattle.values.specs.Values.{trueLength, withLength, mayStand, described, present}
+use Rattle.values.specs.declared.Integer.{Integer}
+use Rattle.values.specs.declared.Integer.the-variants.{One, Refused as NoInteger}
+use Rattle.values.specs.declared.Descriptor.the-variants.{Typed}
+use Rattle.values.specs.declared.Value.the-variants.{Present}
+use Rattle.values.proofs.Stand.{mayStand-wide}
+use Rattle.vectors.specs.Vectors.{vectors as vectorsOf, judged, shownNumbers}
+use Rattle.vectors.specs.Sound.{sound, mostOf}
+use Rattle.vectors.specs.declared.Judged.the-variants.{Sound}
+use Rattle.record.specs.Shown.{elementsOf}
+use Rattle.fetched.proofs.Agree.{sound-there, sound-judged}
+use Rattle.fetched.proofs.Inside.{present-inside}
+use Rattle.fetched.proofs.Present.{present-typed}
+use Rattle.fetched.proofs.Fronts.{present-front, take-past, numbers-take, shownNumbers-numbers}
+use Rattle.bare.specs.Ones.{oneFor, codeFor}
+
+-- a use that takes a bare 00 takes integers
+one-allowed : (role : Use) → allowed (rowOf 0) role ≡ true → allowed (rowOf 1) role ≡ true
+unfolding rowOf
+one-allowed Id h = cc
+one-allowed Allele h = cc
+one-allowed Filter h = refl
+one-allowed Key h = cc
+one-allowed Length h = cc
+one-allowed Info h = refl
+one-allowed Format h = refl
+one-allowed Gt h = refl
+
+-- a descriptor of type 0 is a bare 00, at a use that takes one
+pub record Bare (role : Use) (at : ℕ) (l : List ℕ) (n first : ℕ) : Type 0 where
+  pub rest : List ℕ
+  pub zero : l ≡ 0 ∷ rest
+  pub none : n ≡ 0
+  pub next : first ≡ at + 1
+  pub takes : allowed (rowOf 0) role ≡ true
+
+stands-zero : (role : Use) (n : ℕ) → mayStand role 0 n ≡ true → (allowed (rowOf 0) role ≡ true) × (n ≡ 0)
+unfolding mayStand
+stands-zero role n h = by-tests (allowed (rowOf 0) role) (eqb n 0) refl refl h
+  where
+    by-tests : (a b : Bool) → allowed (rowOf 0) role ≡ a → eqb n 0 ≡ b → pick a b false ≡ true → (allowed (rowOf 0) role ≡ true) × (n ≡ 0)
+    by-tests true true p q e = (p, eqb-true n 0 q)
+    by-tests true false p q e = let z : _≡_ {A = ℕ} 0 1 = cc in absurd (omega arith)
+    by-tests false b p q e = let z : _≡_ {A = ℕ} 0 1 = cc in absurd (omega arith)
+
+pub described-zero : (role : Use) (at : ℕ) (l : List ℕ) (n first : ℕ) → described role at l ≡ Typed 0 n first → Bare role at l n first
+unfolding described
+described-zero role at [] n first h = let z : _≡_ {A = ℕ} 0 1 = cc in absurd (omega arith)
+described-zero role at (d ∷ rest) n first h = by-tests (mayStand role (d % 16) (d / 16)) (ltb (d / 16) 15) (trueLength (at + 1) rest) refl refl h
+  where
+    bare : d % 16 ≡ 0 → mayStand role (d % 16) (d / 16) ≡ true → (allowed (rowOf 0) role ≡ true) × (d ≡ 0)
+    bare e p = let k = stands-zero role (d / 16) (rw e at p) in (k .0, omega (arith, k .1))
+
+    by-tests : (a b : Bool) (i : Integer) → mayStand role (d % 16) (d / 16) ≡ a → ltb (d / 16) 15 ≡ b
+        → pick a (pick b (typed (d % 16) (d / 16) (at + 1)) (withLength (d % 16) i)) (noDescriptor 6 at) ≡ Typed 0 n first → Bare role at (d ∷ rest) n first
+    by-tests false b i p q e = let z : _≡_ {A = ℕ} 0 1 = cc in absurd (omega arith)
+    by-tests true true i p q e =
+        let t : d % 16 ≡ 0 = cc in
+        let len : d / 16 ≡ n = cc in
+        let next : at + 1 ≡ first = cc in
+        let k = bare t p in
+        let z = k .1 in
+        record { rest = rest; zero = ap (λ b. b ∷ rest) z; none = omega arith; next = sym next; takes = k .0 }
+    by-tests true false (NoInteger r) p q e = let z : _≡_ {A = ℕ} 0 1 = cc in absurd (omega arith)
+    by-tests true false (One x next) p q e =
+        let t : d % 16 ≡ 0 = cc in
+        let z = bare t p .1 in
+        let long = ltb-false (d / 16) 15 q in
+        absurd (omega arith)
+
+-- a value of type 0 ends where its elements would begin
+pub present-zero : (vectors : ℕ) (role : Use) (at : ℕ) (l : List ℕ) (n first stop : ℕ) → present vectors role at l ≡ Present 0 n first stop
+    → Bare role at l n first × (stop ≡ first)
+unfolding widthOf rowOf
+present-zero vectors role at l n first stop h =
+    let i = present-typed vectors role at l 0 n first stop h in
+    let b = described-zero role at l n first (i .descriptor) in
+    let e = i .ends in
+    let z = mul-zero (vectors * n) in
+    (b, omega arith)
+
+-- bytes with 01 for a first 00 are as many, and the same from the second on
+pub length-oneFor : (l : List ℕ) → length (oneFor l) ≡ length l
+length-oneFor [] = refl
+length-oneFor (d ∷ l) = refl
+
+oneFor-later : (k : ℕ) (l m : List ℕ) → 0 < k → drop k (oneFor l ++ m) ≡ drop k (l ++ m)
+oneFor-later zero l m h = absurd (omega arith)
+oneFor-later (suc k) [] m h = refl
+oneFor-later (suc k) (d ∷ l) m h = refl
+
+-- bytes that do not begin with 00 stay
+pub oneFor-same : (d : ℕ) (l : List ℕ) → d ≢ 0 → oneFor (d ∷ l) ≡ d ∷ l
+oneFor-same d l h = rw (ne-eqb d 0 h)
+
+-- the type of a descriptor is its low half
+described-type : (role : Use) (at d : ℕ) (rest : List ℕ) (t n first : ℕ) → described role at (d ∷ rest) ≡ Typed t n first → d % 16 ≡ t
+unfolding described
+described-type role at d rest t n first h = by-tests (mayStand role (d % 16) (d / 16)) (ltb (d / 16) 15) (trueLength (at + 1) rest) h
+  where
+    by-tests : (a b : Bool) (i : Integer)
+        → pick a (pick b (typed (d % 16) (d / 16) (at + 1)) (withLength (d % 16) i)) (noDescriptor 6 at) ≡ Typed t n first → d % 16 ≡ t
+    by-tests false b i e = cc
+    by-tests true true i e = cc
+    by-tests true false (NoInteger r) e = cc
+    by-tests true false (One x next) e = cc
+
+-- so that of another type than 0 is no 00
+described-other : (role : Use) (at : ℕ) (l : List ℕ) (t n first k : ℕ) → described role at l ≡ Typed t n first → eqb t 0 ≡ false
+    → oneFor (take k l) ≡ take k l
+described-other role at [] t n first zero h e = refl
+described-other role at [] t n first (suc k) h e = refl
+described-other role at (d ∷ rest) t n first zero h e = refl
+described-other role at (d ∷ rest) t n first (suc k) h e =
+    let low = described-type role at d rest t n first h in
+    let other = eqb-false t 0 e in
+    oneFor-same d (take k rest) (λ z. other (omega arith))
+
+one-wide : 0 < widthOf 1
+unfolding widthOf rowOf
+one-wide = omega arith
+
+-- 01 in the place of a bare 00
+present-one : (vectors : ℕ) (role : Use) (at : ℕ) (m : List ℕ) → allowed (rowOf 0) role ≡ true
+    → present vectors role at (0x01 ∷ m) ≡ Present 1 0 (at + 1) (at + 1)
+unfolding present described
+present-one vectors role at m h =
+    let none : at + 1 + vectors * 0 * widthOf 1 ≡ at + 1 = rw (mul-zero vectors, zero-mul (widthOf 1)) (omega arith) in
+    rw (mayStand-wide role 1 0 (one-allowed role h) one-wide, none, le-leb (at + 1) (at + suc (length m)) (omega arith))
+
+-- the law: a value that is there is there with 01 for its 00, before whatever follows
+pub present-ones : (vectors : ℕ) (role : Use) (at : ℕ) (l m : List ℕ) (t n first stop : ℕ) → present vectors role at l ≡ Present t n first stop
+    → present vectors role at (oneFor (take (stop - at) l) ++ m) ≡ Present (codeFor t) n first stop
+present-ones vectors role at l m t n first stop h = by-type (eqb t 0) refl
+  where
+    bare : t ≡ 0 → present vectors role at (oneFor (take (stop - at) l) ++ m) ≡ Present 1 n first stop
+    bare e =
+        let b = present-zero vectors role at l n first stop (rw e at h) in
+        let k = b .1 in
+        let next = b .0 .next in
+        let one : stop - at ≡ 1 = omega arith in
+        let stop1 : stop ≡ at + 1 = omega arith in
+        rw (one, b .0 .zero, b .0 .none, next, stop1) (present-one vectors role at m (b .0 .takes))
+
+    other : eqb t 0 ≡ false → present vectors role at (oneFor (take (stop - at) l) ++ m) ≡ Present t n first stop
+    other e =
+        let i = present-typed vectors role at l t n first stop h in
+        let a = i .ends in
+        let b = i .later in
+        let c = i .inside in
+        let els = take (stop - first) (drop (first - at) l) in
+        let whole = length-take-le (stop - first) (drop (first - at) l) (rw length-drop (omega arith)) in
+        let size : length els ≡ vectors * n * widthOf t = omega arith in
+        let split : take (stop - at) l ++ m ≡ take (first - at) l ++ (els ++ m) = rw (take-past l at first stop b (omega arith), append-assoc) in
+        let here : at + (first - at) ≡ first = omega arith in
+        rw (
+          described-other role at l t n first (stop - at) (i .descriptor) e,
+          split,
+          present-front vectors vectors role at at l els m t n first stop h size,
+          here,
+          sym a,
+        )
+
+    by-type : (b : Bool) → eqb t 0 ≡ b → present vectors role at (oneFor (take (stop - at) l) ++ m) ≡ Present (pick b 1 t) n first stop
+    by-type true e = bare (eqb-true t 0 e)
+    by-type false e = other e
+
+-- its elements and what follows it, in the bytes that it becomes
+pub drop-ones : (at stop : ℕ) (l m : List ℕ) → at ≤ stop → stop ≤ at + length l → drop (stop - at) (oneFor (take (stop - at) l) ++ m) ≡ m
+drop-ones at stop l m h k =
+    drop-at (oneFor (take (stop - at) l)) m (stop - at) (length-oneFor (take (stop - at) l) ∙ length-take-le (stop - at) l (omega arith))
+
+pub part-ones : (at first stop : ℕ) (l m : List ℕ) → at < first → first ≤ stop → stop ≤ at + length l
+    → take (stop - first) (drop (first - at) (oneFor (take (stop - at) l) ++ m)) ≡ take (stop - first) (drop (first - at) l)
+part-ones at first stop l m h k i =
+    let els = take (stop - first) (drop (first - at) l) in
+    let whole : length els ≡ stop - first = length-take-le (stop - first) (drop (first - at) l) (rw length-drop (omega arith)) in
+    let front : length (take (first - at) l) ≡ first - at = length-take-le (first - at) l (omega arith) in
+    rw (
+      oneFor-later (first - at) (take (stop - at) l) m (omega arith),
+      take-past l at first stop (omega arith) k,
+      append-assoc (take (first - at) l) els m,
+      drop-at (take (first - at) l) (els ++ m) (first - at) front,
+      take-at els m (stop - first) whole,
+    )
+
+-- elements are shown by their own bytes
+elementsOf-take : (t size : ℕ) (l m : List ℕ) → take size l ≡ take size m → elementsOf t size l ≡ elementsOf t size m
+unfolding elementsOf
+elementsOf-take t size l m h =
+    let w = widthOf t in
+    let n = size / w in
+    let few : n * w ≤ size = div-mul-le-self size w in
+    let same : take (n * w) l ≡ take (n * w) m = sym (take-take (n * w) size l few) ∙ ap (take (n * w)) h ∙ take-take (n * w) size m few in
+    rw (shownNumbers-numbers t w n l, shownNumbers-numbers t w n m, numbers-take w n l m same)
+
+-- of no bytes there are no elements
+elementsOf-none : (t : ℕ) (l : List ℕ) → elementsOf t 0 l ≡ []
+unfolding elementsOf shownNumbers
+elementsOf-none t l = rw (zero-div (widthOf t))
+
+pub elements-ones : (vectors : ℕ) (role : Use) (at : ℕ) (l m : List ℕ) (t n first stop : ℕ) → present vectors role at l ≡ Present t n first stop
+    → elementsOf (codeFor t) (stop - first) (drop (first - at) (oneFor (take (stop - at) l) ++ m)) ≡ elementsOf t (stop - first) (drop (first - at) l)
+elements-ones vectors role at l m t n first stop h = by-type (eqb t 0) refl
+  where
+    by-type : (b : Bool) → eqb t 0 ≡ b
+        → elementsOf (pick b 1 t) (stop - first) (drop (first - at) (oneFor (take (stop - at) l) ++ m)) ≡ elementsOf t (stop - first) (drop (first - at) l)
+    by-type true e =
+        let z = eqb-true t 0 e in
+        let b = present-zero vectors role at l n first stop (rw z at h) in
+        let none : stop - first ≡ 0 = omega (arith, b .1) in
+        rw (none, elementsOf-none 1, elementsOf-none t)
+    by-type false e =
+        let i = rw h at (present-inside vectors role at l) in
+        elementsOf-take t (stop - first) _ _ (part-ones at first stop l m (i .0) (i .1) (i .2))
+
+-- a sound value stays sound
+judged-none : (most t : ℕ) → judged most t 0 [] ≡ Sound
+unfolding judged vectorsOf
+judged-none most t = rw (zero-div (widthOf t))
+
+pub sound-ones : (vectors alleles : ℕ) (role : Use) (at : ℕ) (l m : List ℕ) (t n first stop : ℕ)
+    → sound vectors alleles role at l ≡ Present t n first stop
+    → sound vectors alleles role at (oneFor (take (stop - at) l) ++ m) ≡ Present (codeFor t) n first stop
+unfolding sound
+sound-ones vectors alleles role at l m t n first stop h =
+    let p = sound-there vectors alleles role at l t n first stop h in
+    let j = sound-judged vectors alleles role at l t n first stop h in
+    let i = rw p at (present-inside vectors role at l) in
+    rw (present-ones vectors role at l m t n first stop p, part-ones at first stop l m (i .0) (i .1) (i .2), by-type p j (eqb t 0) refl)
+  where
+    part : List ℕ
+    part = take (stop - first) (drop (first - at) l)
+
+    by-type : present vectors role at l ≡ Present t n first stop → judged (mostOf role alleles t) t n part ≡ Sound → (b : Bool) → eqb t 0 ≡ b
+        → judged (mostOf role alleles (pick b 1 t)) (pick b 1 t) n part ≡ Sound
+    by-type p j true e =
+        let z = eqb-true t 0 e in
+        let b = present-zero vectors role at l n first stop (rw z at p) in
+        let none : stop - first ≡ 0 = omega (arith, b .1) in
+        rw (none, b .0 .none) (judged-none (mostOf role alleles 1) 1)
+    by-type p j false e = j

@@ -1,0 +1,66 @@
+-- What is claimed of a bare 00, proved: each law cites the file of `bare` that did the work. Rests on specs/Bare.
+use mathlib.Core.Path.{_≡_, refl}
+use mathlib.Core.List.{List}
+use Prim.Native.Nat.{ℕ, _≤_}
+use lib.ListN.{length}
+use borrow.Author.Tests.{le-ltb}
+use Rattle.types.specs.Rows.{rowOf}
+use Rattle.types.specs.declared.Use.the-variants.{Id, Allele, Filter, Key, Length, Info, Format, Gt as GtUse}
+use Rattle.fixed.specs.declared.Facts.{Facts}
+use Rattle.fixed.specs.declared.Site.{Site}
+use Rattle.genotypes.specs.declared.Gt.{Gt}
+use Rattle.record.specs.Reading.{reading}
+use Rattle.record.specs.Shown.{shownOf}
+use Rattle.record.specs.declared.Reading.the-variants.{Accepted}
+use Rattle.record.proofs.Accepted.{accepted-fits}
+use Rattle.tally.specs.Tally.{nobody, callsOf, tallied}
+use Rattle.tally.specs.declared.Counting.the-variants.{Counted}
+use Rattle.built.specs.Builds.{Tight, Builds}
+use Rattle.built.proofs.Builds.{tight-again}
+use Rattle.bare.specs.Ones.{withOnes}
+use Rattle.bare.proofs.Stand.{described-bare, refused-bare, refused-length, refused-integer}
+use Rattle.bare.proofs.Found.{found-empty, pair-empty, gt-empty}
+use Rattle.bare.proofs.Records.{lies, reads-ones, shownOf-ones}
+use Rattle.bare.proofs.Tight.{tight-ones}
+use Rattle.laws.specs.Bare.{Bare}
+use Rattle.laws.specs.Choosing.{Accepts}
+
+nobody-called : (f : Facts) (s : List ℕ) (t : Site) (g : Gt) → reading f s ≡ Accepted t g → g .code ≡ 0 → t .alleles ≤ 64
+    → tallied f s ≡ record { answer = Counted t; calls = nobody (t .people) }
+unfolding tallied callsOf
+nobody-called f s t g h e few = rw (h, le-ltb 64 (t .alleles) few, gt-empty f s t g h e)
+
+accepts : (f : Facts) (s : List ℕ) (t : Site) (g : Gt) → reading f s ≡ Accepted t g → Accepts f (withOnes t s) t
+accepts f s t g h = let r = reads-ones f s t g h in record { gt = r .gt; read = r .read }
+
+as-long : (f : Facts) (s : List ℕ) (t : Site) (g : Gt) → reading f s ≡ Accepted t g → length (withOnes t s) ≡ length s
+as-long f s t g h = lies f s t (accepted-fits f s t g h) .length-same
+
+again : (f : Facts) (s buf : List ℕ) (t : Site) (g : Gt) → reading f s ≡ Accepted t g → Tight f (withOnes t s) → length s ≤ length buf
+    → Builds f (shownOf t s) buf (withOnes t s)
+again f s buf t g h x room =
+    let r = reads-ones f s t g h in
+    rw (shownOf-ones f s t g h) at (tight-again f (withOnes t s) buf t (r .gt) x (r .read) (rw (as-long f s t g h) room))
+
+pub bare : Bare
+unfolding rowOf
+bare =
+    record {
+      filter = λ at rest. described-bare Filter at rest refl;
+      info = λ at rest. described-bare Info at rest refl;
+      format = λ at rest. described-bare Format at rest refl;
+      gt = λ at rest. described-bare GtUse at rest refl;
+      id = λ at rest. refused-bare Id at rest refl;
+      allele = λ at rest. refused-bare Allele at rest refl;
+      lengths = refused-length;
+      key = λ n at rest. refused-integer Key n at rest refl;
+      true-length = λ n at rest. refused-integer Length n at rest refl;
+      fetches = found-empty;
+      walks = pair-empty;
+      without = nobody-called;
+      accepted = accepts;
+      as-long = as-long;
+      shows = shownOf-ones;
+      again = again;
+      tight = tight-ones;
+    }
