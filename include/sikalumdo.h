@@ -42,6 +42,10 @@
  * l_shared below 24 (3), and then 3 to 11 at the first byte that breaks a rule, each block ending with 4. In
  * building all places are 0.
  *
+ * A BARE 00, a descriptor of type 0 and length 0, says that a FILTER, INFO or FORMAT value, GT's too, is missing, as
+ * a length of 0 does; it is told with SIKALUMDO_TYPE_BARE, length 0 and the place just after it. For an ID, allele,
+ * key or true length 00 gives 6, and so does type 0 with any other length everywhere. Building writes no bare 00.
+ *
  * WHAT A CALLER OWES. The library is proved for callers that keep to this, and nothing else checks it:
  *   - A pointer and its length, counted in elements, name memory that is there: so many elements, aligned for their
  *     type. For an empty slice, too, the pointer is not null.
@@ -80,9 +84,9 @@ extern "C" {
 #define SIKALUMDO_SITE_INFOS 7     /* INFO fields */
 #define SIKALUMDO_SITE_FORMATS 8   /* FORMAT fields */
 #define SIKALUMDO_SITE_PEOPLE 9
-#define SIKALUMDO_SITE_GT_TYPE 10  /* 1, 2 or 3; where the record has no GT, this and the next two are 0 */
+#define SIKALUMDO_SITE_GT_TYPE 10  /* 1, 2, 3 or, for a bare 00, 0; without GT this and the next two are 0 */
 #define SIKALUMDO_SITE_GT_LENGTH 11 /* elements for each person */
-#define SIKALUMDO_SITE_GT_PLACE 12 /* place of the first element */
+#define SIKALUMDO_SITE_GT_PLACE 12 /* place of the first element; just after the descriptor for length 0 */
 
 /* Where each number stands in what sikalumdo_fetch and sikalumdo_pair tell. */
 #define SIKALUMDO_FIELD_KEY 0      /* dictionary offset; 0 for ID, alleles and FILTER, which have none */
@@ -105,7 +109,8 @@ extern "C" {
 #define SIKALUMDO_KIND_INFO 3
 #define SIKALUMDO_KIND_FORMAT 4
 
-/* The types of elements. */
+/* The types of elements, and that of a bare 00, which has none. */
+#define SIKALUMDO_TYPE_BARE 0
 #define SIKALUMDO_TYPE_INT8 1
 #define SIKALUMDO_TYPE_INT16 2
 #define SIKALUMDO_TYPE_INT32 3

@@ -25,8 +25,8 @@ import pathlib
 ID, ALLELE, FILTER, INFO, FORMAT = range(5)
 """The kinds of fields, for `fetch`."""
 
-INT8, INT16, INT32, FLOAT, TEXT = 1, 2, 3, 5, 7
-"""The types of elements, as `Field.type` has them."""
+BARE, INT8, INT16, INT32, FLOAT, TEXT = 0, 1, 2, 3, 5, 7
+"""The types of elements, as `Field.type` has them; BARE is that of a bare 00, a missing value without elements."""
 
 MISSING, END_OF_VECTOR = -0x80000000, -0x7FFFFFFF
 """The marks of integers of any width, as they are shown and given."""
@@ -88,7 +88,8 @@ Site.__doc__ = """What reading answers, all ints.
 
 length: bytes of the record; border: place of the genotype block; chrom: contig's number; pos: zero-based position, one
 less than VCF's; rlen: bases; qual: 32 float bits, FLOAT_MISSING for none; alleles (with REF), infos, formats, people:
-counts; gt_type: GT's type; gt_length: elements for each person; gt_place: place of the first; all three 0 without GT.
+counts; gt_type: GT's type; gt_length: elements for each person; gt_place: place of the first, just after the descriptor
+where there is none; all three 0 without GT.
 """
 
 Tally = collections.namedtuple("Tally", "length people without missing calls")
@@ -102,9 +103,9 @@ tuple of how often each allele of the record is called, REF first.
 class Field(collections.namedtuple("Field", "key type length place stop part")):
     """A fetched field, or an INFO pair.
 
-    key: dictionary offset, 0 for ID, alleles and FILTER; type: INT8, INT16, INT32, FLOAT or TEXT; length: elements, of
-    a FORMAT value those of each person; place, stop: of the first element and after the last; part: the elements'
-    bytes as they stand in the record.
+    key: dictionary offset, 0 for ID, alleles and FILTER; type: BARE, INT8, INT16, INT32, FLOAT or TEXT; length:
+    elements, of a FORMAT value those of each person; place, stop: of the first element and after the last; part: the
+    elements' bytes as they stand in the record.
     """
 
     __slots__ = ()

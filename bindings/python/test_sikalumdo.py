@@ -26,11 +26,13 @@ def sample(name):
 
 
 RECORD = sample("two-people.hex")[1][0]
+# The same with a bare 00 for FILTER, for the INFO value and for GT.
+BARE_RECORD = b"\x21" + RECORD[1:4] + b"\3" + RECORD[5:37] + b"\0" + b"\x11\2\0" + b"\x11\3\0"
 
 
-def edited(place, value):
-    """The sample's record with another byte at a place."""
-    return RECORD[:place] + bytes([value]) + RECORD[place + 1:]
+def edited(place, value, record=RECORD):
+    """A record, the sample's as a rule, with another byte at a place."""
+    return record[:place] + bytes([value]) + record[place + 1:]
 
 
 def begun(people=2):
@@ -206,6 +208,33 @@ class Choosing(Case):
             kept = sikalumdo.choose(record, facts, stay)
             rest = sikalumdo.fetch(kept, facts._replace(people=60), FORMAT, 0).values()
             self.assertEqual(rest, [code for person in stay for code in every[2 * person:2 * person + 2]])
+
+
+class BareValues(Case):
+    def test_read(self):
+        site = sikalumdo.read(BARE_RECORD, FACTS)
+        self.assertEqual((site.length, site.gt_type, site.gt_length, site.gt_place), (44, sikalumdo.BARE, 0, 44))
+
+    def test_fetched(self):
+        for kind, key, place in ((FILTER, 0, 38), (INFO, 2, 41), (FORMAT, 3, 44)):
+            field = sikalumdo.fetch(BARE_RECORD, FACTS, kind, 0)
+            self.assertEqual(field, (key, sikalumdo.BARE, 0, place, place, b""))
+            self.assertEqual(field.values(), [])
+        self.assertRefused(16, 0, sikalumdo.shown, b"", sikalumdo.BARE, 0)
+
+    def test_walked(self):
+        self.assertEqual(list(sikalumdo.pairs(BARE_RECORD, FACTS)), [(2, sikalumdo.BARE, 0, 41, 41, b"")])
+
+    def test_tallied(self):
+        self.assertEqual(sikalumdo.tally(BARE_RECORD, FACTS), (44, 2, 2, 0, (0, 0)))
+
+    def test_chosen(self):
+        self.assertEqual(sikalumdo.choose(BARE_RECORD, FACTS, [1]), edited(GENOTYPE_COUNTS, 1, BARE_RECORD))
+
+    def test_refused_elsewhere(self):
+        """00 for the ID, REF and the two keys; other lengths for FILTER, the INFO value and GT."""
+        for place, value in ((32, 0), (33, 0), (38, 0), (41, 0), (37, 0x10), (40, 0xF0), (43, 0x20)):
+            self.assertRefused(6, place, sikalumdo.read, edited(place, value, BARE_RECORD), FACTS)
 
 
 class Building(Case):

@@ -8,7 +8,7 @@
 #include <stdlib.h>
 #include <string.h>
 
-enum { RECORD = 50, ROOM = 200 };
+enum { RECORD = 50, BARE = 44, ROOM = 200 };
 
 /* The places of the allele and INFO counts, and of the FORMAT and people counts. */
 enum { SITE_COUNTS = 24, GENOTYPE_COUNTS = 28 };
@@ -70,6 +70,16 @@ static int untouched(const void *memory, size_t count)
     return 1;
 }
 
+/* Whether a field's numbers are key, type, length, place and stop as they are given. */
+static int tells(const uint64_t *out, const uint32_t *given)
+{
+    size_t k;
+    for (k = 0; k < SIKALUMDO_FIELD_NUMBERS; k++)
+        if (out[k] != given[k])
+            return 0;
+    return 1;
+}
+
 static void test_reading(void)
 {
     static const uint64_t told[SIKALUMDO_SITE_NUMBERS] = {50, 43, 0, 14369, 1, 0x41E80000, 2, 1, 1, 2, 1, 2, 46};
@@ -93,11 +103,10 @@ static void test_fetching(void)
                                           {SIKALUMDO_KIND_INFO, 0, 1, 2, SIKALUMDO_TYPE_INT8, 1, 42, 43},
                                           {SIKALUMDO_KIND_FORMAT, 0, 4, 3, SIKALUMDO_TYPE_INT8, 2, 46, 50}};
     uint64_t out[SIKALUMDO_FIELD_NUMBERS];
-    size_t i, k;
+    size_t i;
     for (i = 0; i < 6; i++) {
         CHECK(is(fetch_into(fields[i][0], fields[i][1], out, SIKALUMDO_FIELD_NUMBERS), 0, fields[i][2]));
-        for (k = 0; k < SIKALUMDO_FIELD_NUMBERS; k++)
-            CHECK(out[k] == fields[i][3 + k]);
+        CHECK(tells(out, fields[i] + 3));
     }
     memset(out, 0xA5, sizeof out);
     CHECK(is(fetch_into(SIKALUMDO_KIND_ID, 1, out, SIKALUMDO_FIELD_NUMBERS), 16, 0));
@@ -255,6 +264,78 @@ static void test_building_other_types(void)
     CHECK(n == 8 && memcmp(buf + out[SIKALUMDO_FIELD_PLACE], "\0\0\x80\x3F\x01\0\x80\x7F", 8) == 0);
 }
 
+/* The sample's record with a bare 00 for FILTER, for the INFO value and for GT, in memory of just its size. */
+static uint8_t *bare_record(void)
+{
+    uint8_t *bare = (uint8_t *)malloc(BARE);
+    if (!bare)
+        abort();
+    memcpy(bare, record, 37);
+    memcpy(bare + 37, "\0\x11\x02\0\x11\x03\0", 7);
+    bare[0] = 33;
+    bare[4] = 3;
+    return bare;
+}
+
+/* A bare 00 is told with type 0, length 0 and the place just after it, and it shows nothing. */
+static void test_bare_values(void)
+{
+    /* kind; then key, type, length, place, stop */
+    static const uint32_t fields[3][6] = {{SIKALUMDO_KIND_FILTER, 0, SIKALUMDO_TYPE_BARE, 0, 38, 38},
+                                          {SIKALUMDO_KIND_INFO, 2, SIKALUMDO_TYPE_BARE, 0, 41, 41},
+                                          {SIKALUMDO_KIND_FORMAT, 3, SIKALUMDO_TYPE_BARE, 0, 44, 44}};
+    uint8_t *bare = bare_record();
+    uint64_t out[SIKALUMDO_SITE_NUMBERS];
+    size_t i;
+    CHECK(is(read_into(bare, BARE, out, SIKALUMDO_SITE_NUMBERS), 0, BARE));
+    CHECK(out[SIKALUMDO_SITE_GT_TYPE] == SIKALUMDO_TYPE_BARE && out[SIKALUMDO_SITE_GT_LENGTH] == 0);
+    CHECK(out[SIKALUMDO_SITE_GT_PLACE] == 44);
+    for (i = 0; i < 3; i++) {
+        CHECK(is(sikalumdo_fetch(bare, BARE, STRINGS, CONTIGS, PEOPLE, GT, fields[i][0], 0, out,
+                                 SIKALUMDO_FIELD_NUMBERS), 0, 0));
+        CHECK(tells(out, fields[i] + 1));
+    }
+    CHECK(is(sikalumdo_first_pair(bare, BARE, STRINGS, CONTIGS, PEOPLE, GT), 0, 38));
+    CHECK(is(sikalumdo_pair(bare, BARE, 38, out, SIKALUMDO_FIELD_NUMBERS), 0, 0));
+    CHECK(tells(out, fields[1] + 1));
+    CHECK(is(sikalumdo_pair(bare, BARE, 41, out, SIKALUMDO_FIELD_NUMBERS), 16, 0));
+    CHECK(is(sikalumdo_shown(bare + 41, 0, SIKALUMDO_TYPE_BARE, 0), 16, 0));
+    free(bare);
+}
+
+/* With a bare 00 for GT nobody has a genotype, and a choice keeps its key and descriptor. */
+static void test_bare_genotypes(void)
+{
+    static const uint64_t told[SIKALUMDO_TALLY_NUMBERS] = {2, 2, 2, 0};
+    static const uint32_t second[1] = {1};
+    uint8_t *bare = bare_record();
+    uint64_t out[SIKALUMDO_TALLY_NUMBERS];
+    CHECK(is(tally_into(bare, BARE, out, SIKALUMDO_TALLY_NUMBERS), 0, BARE));
+    CHECK(memcmp(out, told, sizeof told) == 0);
+    memset(buf, 0xA5, sizeof buf);
+    CHECK(is(sikalumdo_choose(bare, BARE, STRINGS, CONTIGS, PEOPLE, GT, second, 1, buf, ROOM), 0, BARE));
+    bare[GENOTYPE_COUNTS] = 1;
+    CHECK(memcmp(buf, bare, BARE) == 0 && untouched(buf + BARE, ROOM - BARE));
+    free(bare);
+}
+
+/* 00 for the ID, REF and the two keys, and other lengths of type 0 for FILTER, the INFO value and GT: 6. */
+static void test_type_0_elsewhere(void)
+{
+    static const uint8_t edits[7][2] = {{32, 0x00}, {33, 0x00}, {38, 0x00}, {41, 0x00},
+                                        {37, 0x10}, {40, 0xF0}, {43, 0x20}};
+    uint64_t out[SIKALUMDO_SITE_NUMBERS];
+    size_t i;
+    memset(out, 0xA5, sizeof out);
+    for (i = 0; i < 7; i++) {
+        uint8_t *bare = bare_record();
+        bare[edits[i][0]] = edits[i][1];
+        CHECK(is(read_into(bare, BARE, out, SIKALUMDO_SITE_NUMBERS), 6, edits[i][0]));
+        free(bare);
+    }
+    CHECK(untouched(out, sizeof out));
+}
+
 /* The record with one byte changed gives a refusal at a place, and the numbers stay. */
 static void test_refusals_of_reading(void)
 {
@@ -388,7 +469,8 @@ int main(int argc, char **argv)
     static void (*const all[])(void) = {test_reading,  test_fetching,   test_showing,
                                         test_walking,  test_tallying,   test_choosing,
                                         test_building, test_short_outs, test_building_other_types,
-                                        test_refused_turns, test_refused_beginnings, test_refusals_of_reading};
+                                        test_refused_turns, test_refused_beginnings, test_refusals_of_reading,
+                                        test_bare_values, test_bare_genotypes, test_type_0_elsewhere};
     if (argc != 2 || !load(argv[1])) {
         fprintf(stderr, "usage: call samples/two-people.hex\n");
         return 2;

@@ -26,7 +26,7 @@ pub struct Field<'a> {
     pub elements: &'a [u8],
     /// The key of an INFO or FORMAT value as 32 bits; 0 for ID, alleles and FILTER.
     pub key: u32,
-    /// The type: 1, 2 or 3 for integers, 5 for floats, 7 for text.
+    /// The type: 1, 2 or 3 for integers, 5 for floats, 7 for text; 0 for a bare 00, a missing value without elements.
     pub code: u8,
     /// The descriptor's length; in FORMAT that for each person.
     pub len: u32,
@@ -61,7 +61,7 @@ pub fn fetch<'a>(s: &'a [u8], facts: &Facts, kind: Kind, number: u32) -> Result<
 }
 
 /// The 32 bits that an element of a fetched part is shown by: an integer as a signed number with the marks of type 3,
-/// a float as its bits, text as its byte. `None` past the last whole element, and for an unused type.
+/// a float as its bits, text as its byte. `None` past the last whole element, and for an unused type or a bare 00's.
 ///
 /// ```
 /// assert_eq!(sikalumdo::shown(&[0x05, 0x80], 1, 0), Some(5));

@@ -25,7 +25,7 @@ pub struct Site {
     pub formats: u32,
     /// People, which equal the number given.
     pub people: u32,
-    /// GT's type, 1, 2 or 3; 0 where the record has no GT field.
+    /// GT's type: 1, 2 or 3; 0 for a bare 00, and 0 with length and place 0 where the record has no GT field.
     pub gt_type: u8,
     /// GT's length for each person.
     pub gt_len: u32,

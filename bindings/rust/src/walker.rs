@@ -11,7 +11,7 @@ pub struct Pair<'a> {
     pub elements: &'a [u8],
     /// The key as 32 bits. It isn't judged again, so in a record that was not read it may be any number.
     pub key: u32,
-    /// The value's type: 1, 2 or 3 for integers, 5 for floats, 7 for text.
+    /// The value's type: 1, 2 or 3 for integers, 5 for floats, 7 for text; 0 for a bare 00, a missing value.
     pub code: u8,
     /// The value's length.
     pub len: u32,

@@ -1,4 +1,4 @@
-//! The repository's sample record of two people, through every function of the crate.
+//! The repository's sample record of two people, through every function of the crate; and the same with bare 00s.
 
 use sikalumdo::{choose, fetch, pair_at, pairs, read, shown, tally, Builder, Facts, Kind, Refusal};
 
@@ -103,6 +103,53 @@ fn people_are_chosen() {
     wanted.drain(46..48);
     assert_eq!((&buf[..48], &buf[48..]), (&wanted[..], &[PATTERN; 12][..]));
     assert_eq!(choose(&record, &facts, &[], &mut buf), Ok(43));
+}
+
+/// The sample's record with a bare 00 for FILTER, for the INFO value and for GT.
+fn bare() -> Vec<u8> {
+    let mut record = sample().1;
+    record.truncate(37);
+    record.extend([0x00, 0x11, 0x02, 0x00, 0x11, 0x03, 0x00]);
+    (record[0], record[4]) = (33, 3);
+    record
+}
+
+#[test]
+fn a_bare_00_is_fetched_and_walked_over() {
+    let (facts, record) = (sample().0, bare());
+    let site = read(&record, &facts).expect("an accepted record");
+    assert_eq!((site.length, site.gt_type, site.gt_len, site.gt_place), (44, 0, 0, 44));
+    for (kind, key, place) in [(Kind::FILTER, 0, 38), (Kind::INFO, 2, 41), (Kind::FORMAT, 3, 44)] {
+        let field = fetch(&record, &facts, kind, 0).expect("a missing value");
+        assert_eq!((field.key, field.code, field.len, field.place, field.stop), (key, 0, 0, place, place));
+        assert_eq!((field.elements, shown(field.elements, field.code, 0)), (&[][..], None));
+    }
+    let mut walker = pairs(&record, &facts).expect("an accepted record");
+    let pair = walker.next().expect("one pair");
+    assert_eq!((pair.key, pair.code, pair.len, pair.place, pair.next), (2, 0, 0, 41, 41));
+    assert_eq!((pair.elements, walker.next()), (&[][..], None));
+}
+
+#[test]
+fn a_bare_00_is_tallied_and_chosen() {
+    let (facts, mut record) = (sample().0, bare());
+    let tally = tally(&record, &facts).expect("a tally");
+    assert_eq!((tally.people, tally.without, tally.missing, tally.calls), (2, 2, 0, [0; 64]));
+    let mut buf = [PATTERN; 60];
+    assert_eq!(choose(&record, &facts, &[1], &mut buf), Ok(44));
+    record[GENOTYPE_COUNTS] = 1;
+    assert_eq!((&buf[..44], &buf[44..]), (&record[..], &[PATTERN; 16][..]));
+}
+
+#[test]
+fn type_0_is_refused_elsewhere() {
+    let facts = sample().0;
+    // 00 for the ID, REF and the two keys; other lengths for FILTER, the INFO value and GT.
+    for (place, byte) in [(32, 0x00), (33, 0x00), (38, 0x00), (41, 0x00), (37, 0x10), (40, 0xF0), (43, 0x20)] {
+        let mut record = bare();
+        record[place] = byte;
+        assert_eq!(read(&record, &facts), Err(Refusal { number: 6, place: place as u32 }));
+    }
 }
 
 #[test]

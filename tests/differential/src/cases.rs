@@ -8,7 +8,9 @@ use crate::damage::{damaged, noise, Input};
 use crate::elements::{width, CODES};
 use crate::filters::compare_filters;
 use crate::random::Random;
-use crate::reading::{compare_fetch, compare_fetches, compare_pairs, compare_read, compare_tally, compare_walk, KINDS};
+use crate::reading::{
+    compare_fetch, compare_fetches, compare_pairs, compare_record, compare_tally, compare_walk, KINDS,
+};
 use crate::rebuild;
 use crate::record::{set_lengths, Key, Record, Value};
 use crate::report::Report;
@@ -36,8 +38,7 @@ pub fn run(report: &mut Report, seed: u64, case: u64) {
 
 /// Everything that can be asked about an input; an accepted one is built again. Gives what was built.
 fn compare_all(report: &mut Report, input: &Input, random: &mut Random) -> Option<Vec<u8>> {
-    report.count_record();
-    let site = compare_read(report, input);
+    let site = compare_record(report, input);
     compare_tally(report, input);
     compare_fetches(report, input, random, &site);
     compare_walk(report, input);
@@ -47,7 +48,8 @@ fn compare_all(report: &mut Report, input: &Input, random: &mut Random) -> Optio
     compare_turns(report, &rebuild::sequence(input, &site, random.next()))
 }
 
-/// A sound record is accepted, with and without bytes after it, and built again it is the tight record of its parts.
+/// A sound record is accepted, with and without bytes after it, and built again it is the tight record of its parts:
+/// itself if it is tight, and itself with 01 in place of each bare 00 if it is tight but for those.
 fn sound_record(report: &mut Report, random: &mut Random) {
     let record = record(random);
     let mut input = Input { facts: record.facts, bytes: record.lay().bytes };
@@ -87,7 +89,9 @@ fn sweep(report: &mut Report, random: &mut Random) {
         let byte = sound.bytes[place];
         let mut changed = sound.clone();
         let any = random.next() as u8;
-        for other in [byte.wrapping_add(1), byte.wrapping_sub(1), byte ^ 0x80, byte ^ 0x10, 0, 0x81, 0x83, 0xFF, any] {
+        let near = [byte.wrapping_add(1), byte.wrapping_sub(1), byte ^ 0x80, byte ^ 0x10];
+        // A descriptor of type 0 and the same length among them, and a bare 00.
+        for other in near.into_iter().chain([byte & 0xF0, 0, 0x81, 0x83, 0xFF, any]) {
             changed.bytes[place] = other;
             compare_some(report, &changed, random);
         }
@@ -108,12 +112,12 @@ fn short_record(random: &mut Random) -> (Input, usize) {
 
 /// What is asked about one of many inputs that are much alike.
 fn compare_some(report: &mut Report, input: &Input, random: &mut Random) {
-    report.count_record();
-    let accepted = compare_read(report, input).is_ok();
+    let accepted = compare_record(report, input).is_ok();
     compare_tally(report, input);
     compare_walk(report, input);
     compare_fetch(report, input, random, 4, 0);
     if accepted {
+        compare_fetch(report, input, random, 2, 0);
         compare_fetch(report, input, random, 3, 0);
         compare_pairs(report, input, random);
         compare_choices(report, input, random, false);
@@ -130,12 +134,14 @@ fn large_record(report: &mut Report, random: &mut Random) {
             record.alleles = vec![one; 65_535];
             record.formats.extend(wide_genotypes(random, &facts));
         }
-        1 => record.infos = vec![(Key { number: 0, code: 2 }, one); 65_535],
+        1 => {
+            let value = if random.one_in(2) { Value::bare() } else { one };
+            record.infos = vec![(Key { number: 0, code: 2 }, value); 65_535];
+        }
         _ => fill(random, &mut record),
     }
     let input = Input { facts, bytes: record.lay().bytes };
-    report.count_record();
-    compare_read(report, &input).ok();
+    compare_record(report, &input).ok();
     compare_tally(report, &input);
     compare_walk(report, &input);
     (0..KINDS.len()).for_each(|kind| compare_fetch(report, &input, random, kind, 0));

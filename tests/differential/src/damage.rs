@@ -4,7 +4,7 @@ use sikalumdo::Facts;
 
 use crate::elements::{end_of, pack, width, CODES, FLOAT_END, MISSING};
 use crate::random::Random;
-use crate::record::{set_lengths, set_word, Laid, Record, Spot, What};
+use crate::record::{set_lengths, set_word, Laid, Record, Spot, Value, What};
 use crate::record::{CHROM, GENOTYPE_COUNTS, ID, POS, QUAL, RLEN, SITE_COUNTS};
 use crate::shape::offset;
 
@@ -34,17 +34,13 @@ fn damage_parts(random: &mut Random, record: &mut Record) {
     match random.below(9) {
         0 => repeat_filter(random, record),
         1 => repeat_format(random, record),
-        2 => {
-            let empty = &mut record.alleles[allele];
-            (empty.len, empty.length_code) = (0, 0);
-            empty.shown.clear();
-        }
+        2 => record.alleles[allele] = Value { code: random.pick(&[0, 7]), ..Value::bare() },
         3 => {
             let at = random.below(record.alleles[allele].shown.len());
             record.alleles[allele].shown[at] = random.pick(&[0, 0x20, 0x7F, 0xFF]);
         }
-        4 => record.id.code = random.pick(&[1, 5, 3]),
-        5 => record.filter.code = random.pick(&[5, 7]),
+        4 => record.id.code = random.pick(&[0, 1, 5, 3]),
+        5 => record.filter.code = random.pick(&[0, 5, 7]),
         6 => element_after_end(random, record),
         7 => long_length(random, record),
         _ => short_true_length(random, record),
@@ -178,11 +174,13 @@ fn spot(random: &mut Random, bytes: &[u8], laid: &Laid, what: What) -> Option<Sp
 fn descriptor(random: &mut Random, bytes: &mut [u8], laid: &Laid) {
     if let Some(spot) = spot(random, bytes, laid, What::Descriptor) {
         let byte = &mut bytes[spot.first];
-        *byte = match random.below(5) {
+        *byte = match random.below(7) {
             0 => byte.wrapping_add(0x10),
             1 => byte.wrapping_sub(0x10),
             2 => *byte & 0xF0 | random.pick(&CODES),
             3 => *byte | 0xF0,
+            4 => 0x00,
+            5 => (random.below(15) as u8 + 1) << 4,
             _ => *byte & 0xF0 | random.below(16) as u8,
         };
     }

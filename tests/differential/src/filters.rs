@@ -5,7 +5,7 @@ use sikalumdo::Facts;
 use crate::damage::Input;
 use crate::elements::tight_code;
 use crate::random::Random;
-use crate::reading::compare_read;
+use crate::reading::compare_record;
 use crate::record::{Record, Value};
 use crate::report::Report;
 use crate::shape::record_of;
@@ -48,8 +48,7 @@ fn compare_list(report: &mut Report, random: &mut Random, facts: Facts, list: Ve
     let code = random.within(tight_code(&list).into(), 3) as u8;
     let filter = Value { code, len: list.len() as u32, length_code: 2, shown: list };
     let record = Record { filter, ..record_of(random, facts) };
-    report.count_record();
-    compare_read(report, &Input { facts, bytes: record.lay().bytes }).ok();
+    compare_record(report, &Input { facts, bytes: record.lay().bytes }).ok();
     let begin = Turn::Begin { facts, chrom: 0, pos: 0, rlen: 0, qual: 0 };
     let turns = [begin, Turn::Id(Vec::new()), Turn::Allele(b"A".to_vec()), Turn::Filter(offsets), Turn::End];
     let room = 16_000;

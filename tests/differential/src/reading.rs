@@ -16,6 +16,24 @@ pub const KINDS: [(Kind, Plain); 5] = [
     (Kind::FORMAT, Plain::Format),
 ];
 
+/// Counts an input that was made, compares reading it, and gives the answer.
+pub fn compare_record(report: &mut Report, input: &Input) -> Answer<sikalumdo::Site> {
+    let answer = compare_read(report, input);
+    report.count_record(answer.is_ok_and(|site| has_bare(input, &site)));
+    answer
+}
+
+/// Whether any value of an accepted record is a bare 00.
+fn has_bare(input: &Input, site: &sikalumdo::Site) -> bool {
+    let is_bare = |kind: Kind, number: u32| {
+        sikalumdo::fetch(&input.bytes, &input.facts, kind, number).is_ok_and(|field| field.code == 0)
+    };
+    let mut pairs = sikalumdo::pairs(&input.bytes, &input.facts).into_iter().flatten();
+    is_bare(Kind::FILTER, 0)
+        || pairs.any(|pair| pair.code == 0)
+        || (0..site.formats).any(|number| is_bare(Kind::FORMAT, number))
+}
+
 /// Compares reading, and gives the answer.
 pub fn compare_read(report: &mut Report, input: &Input) -> Answer<sikalumdo::Site> {
     let answer = ours(sikalumdo::read(&input.bytes, &input.facts));

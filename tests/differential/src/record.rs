@@ -16,7 +16,7 @@ pub const SITE_COUNTS: usize = 24;
 pub const GENOTYPE_COUNTS: usize = 28;
 pub const ID: usize = 32;
 
-/// A typed value: its elements as they are shown, in vectors of `len`.
+/// A typed value: its elements as they are shown, in vectors of `len`. A bare 00 is one of code 0, without elements.
 #[derive(Clone)]
 pub struct Value {
     pub code: u8,
@@ -125,7 +125,7 @@ impl Record {
         laid
     }
 
-    /// The same record at the narrowest widths.
+    /// The same record at the narrowest widths, with 01 in place of each bare 00.
     pub fn tight(&self) -> Record {
         let mut tight = self.clone();
         tight.id.tighten();
@@ -140,7 +140,13 @@ impl Record {
 }
 
 impl Value {
+    /// A descriptor 00 and nothing else, for a FILTER, INFO or FORMAT value that has nothing.
+    pub fn bare() -> Value {
+        Value { code: 0, len: 0, length_code: 0, shown: Vec::new() }
+    }
+
     fn tighten(&mut self) {
+        // A bare 00 shows no integers, as 01 does.
         if self.code <= 3 {
             self.code = tight_code(&self.shown);
         }

@@ -37,6 +37,8 @@ pub struct Report {
     seed: u64,
     case: u64,
     records: u64,
+    /// Accepted records with a bare 00 among their values.
+    with_bare: u64,
     builds: u64,
     functions: BTreeMap<&'static str, Answers>,
     differences: u64,
@@ -44,15 +46,16 @@ pub struct Report {
 
 impl Report {
     pub fn new(seed: u64) -> Report {
-        Report { seed, case: 0, records: 0, builds: 0, functions: BTreeMap::new(), differences: 0 }
+        Report { seed, case: 0, records: 0, with_bare: 0, builds: 0, functions: BTreeMap::new(), differences: 0 }
     }
 
     pub fn begin_case(&mut self, case: u64) {
         self.case = case;
     }
 
-    pub fn count_record(&mut self) {
+    pub fn count_record(&mut self, has_bare: bool) {
         self.records += 1;
+        self.with_bare += u64::from(has_bare);
     }
 
     pub fn count_build(&mut self) {
@@ -116,6 +119,7 @@ impl Report {
 impl Display for Report {
     fn fmt(&self, form: &mut fmt::Formatter<'_>) -> fmt::Result {
         writeln!(form, "{} inputs, {} records and {} builds", self.inputs(), self.records, self.builds)?;
+        writeln!(form, "{} accepted records with a bare 00", self.with_bare)?;
         let mut reached = [false; 17];
         for (function, answers) in &self.functions {
             let refused: u64 = answers.refused.iter().sum();

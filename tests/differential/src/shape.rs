@@ -1,4 +1,5 @@
-//! Sound records of many shapes, made at random: facts, fixed fields, and values of every type, length and width.
+//! Sound records of many shapes, made at random: facts, fixed fields, and values of every type, length and width, bare
+//! 00s among them.
 
 use sikalumdo::Facts;
 
@@ -124,6 +125,9 @@ fn allele(random: &mut Random) -> Value {
 }
 
 fn filter(random: &mut Random, strings: u32) -> Value {
+    if random.one_in(6) {
+        return Value::bare();
+    }
     let shown = offsets(random, strings);
     let code = shown.iter().map(|&offset| code_for(random, offset)).max().unwrap_or(random.pick(&[1, 2, 3]));
     value(random, code, shown.len() as u32, shown)
@@ -154,6 +158,9 @@ fn infos(random: &mut Random, strings: u32) -> Vec<(Key, Value)> {
 }
 
 fn info(random: &mut Random) -> Value {
+    if random.one_in(8) {
+        return Value::bare();
+    }
     let (code, len) = (random.pick(&CODES), site_length(random));
     let shown = vector(random, code, len as usize);
     value(random, code, len, shown)
@@ -193,6 +200,9 @@ fn format_keys(random: &mut Random, facts: &Facts, wanted: usize) -> Vec<u32> {
 }
 
 fn format(random: &mut Random, facts: &Facts, alleles: usize, number: u32, many: bool) -> Value {
+    if random.one_in(8) {
+        return Value::bare();
+    }
     let len = match random.below(12) {
         _ if facts.people >= MANY_PEOPLE => 0,
         0 if facts.people <= 60 && !many => random.within(13, 40),

@@ -6,9 +6,10 @@
 
 use crate::elements::shown;
 use crate::refusal::{Refusal, BYTES_OVER, PAST_BLOCK, WRONG_LENGTH, WRONG_TYPE};
-use crate::types::{Type, INTEGER, TYPES};
+use crate::types::{Type, INTEGER, MAY_BE_BARE, TYPES};
 
-/// A typed value: its type code, the length of each of its vectors, and the places of its element bytes.
+/// A typed value: its type code, the length of each of its vectors, and the places of its element bytes. A bare 00 has
+/// code 0 and length 0.
 pub(crate) struct Value {
     pub code: u8,
     pub len: u32,
@@ -45,11 +46,12 @@ pub(crate) fn single(block: &[u8], at: usize) -> Result<Single, Refusal> {
     Ok(Single { number: bits as i32, first, stop: first + row.width })
 }
 
-/// The value at a place, of `vectors` vectors, with a type of the use wanted and all its elements in the block. The
-/// elements themselves aren't judged.
+/// The value at a place, of `vectors` vectors, with a type of the use wanted and all its elements in the block, or a
+/// bare 00 where that may stand. The elements themselves aren't judged.
 pub(crate) fn value(block: &[u8], at: usize, usage: u8, vectors: u32) -> Result<Value, Refusal> {
     let (code, row, length) = descriptor(block, at)?;
-    if row.uses & usage == 0 {
+    let is_bare = (code, length) == (0, 0) && usage & MAY_BE_BARE != 0;
+    if row.uses & usage == 0 && !is_bare {
         return Err(Refusal::at(WRONG_TYPE, at));
     }
     let (len, first) = match length {

@@ -81,7 +81,8 @@ impl Element for Text {
 }
 
 /// The 32 bits that element `index` of a fetched part of type `code` is shown by: integers as signed numbers with
-/// type 3's marks, floats as their bits, text as its byte. None past the last whole element or for an unused type.
+/// type 3's marks, floats as their bits, text as its byte. None past the last whole element, and for an unused type or a
+/// bare 00's, which has no elements.
 pub fn shown(part: &[u8], code: u8, index: usize) -> Option<u32> {
     let width = width(code);
     if width == 0 {
@@ -102,7 +103,8 @@ pub(crate) fn numbers(part: &[u8], code: u8) -> impl Iterator<Item = i32> + '_ {
     (0..).map_while(move |index| shown(part, code, index)).map(|bits| bits as i32)
 }
 
-/// The first fault in the element bytes of vectors of `len` elements each, of one of the five types.
+/// The first fault in the element bytes of vectors of `len` elements each, of one of the five types; a bare 00 has no
+/// element, so none at fault.
 pub(crate) fn judge_bytes(bytes: &[u8], code: u8, len: usize) -> Result<(), Fault> {
     match code {
         1 => judge(bytes, len, |byte| byte as i8),

@@ -17,8 +17,8 @@ pub enum Kind {
     Format,
 }
 
-/// A fetched value: its key (0 for ID, alleles and FILTER), its type code, its descriptor's length (for each person
-/// in FORMAT), and the places from its first element up to the byte after its last.
+/// A fetched value: its key (0 for ID, alleles and FILTER), its type code (0 for a bare 00), its descriptor's length
+/// (for each person in FORMAT), and the places from its first element up to the byte after its last.
 #[derive(Debug, Clone, Copy, PartialEq, Eq)]
 pub struct Field {
     pub key: u32,

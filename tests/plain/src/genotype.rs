@@ -38,7 +38,7 @@ pub fn call(part: &[u8], code: u8, index: usize) -> Option<Call> {
     }
 }
 
-/// The first fault in the element bytes of a GT value of type 1, 2 or 3.
+/// The first fault in the element bytes of a GT value of type 1, 2 or 3; a bare 00 has none.
 pub(crate) fn judge_bytes(bytes: &[u8], code: u8, len: usize, alleles: u32) -> Result<(), Fault> {
     match code {
         1 => judge_codes(bytes, len, |byte| byte as i8, wrong(alleles)),

@@ -27,7 +27,7 @@ pub struct Site {
     pub people: u32,
     /// The place of the first INFO pair, or the site block's end where there is none.
     pub first_info: u32,
-    /// GT's type; 0, with length and place 0, where there is no GT field.
+    /// GT's type; 0 for a bare 00, and 0 with length and place 0 where there is no GT field.
     pub gt_type: u8,
     pub gt_len: u32,
     /// The place of GT's first element, or just after its descriptor for length 0.
@@ -92,7 +92,7 @@ fn read_infos(site: &[u8], first: usize, infos: u32, facts: &Facts) -> Result<us
     Ok(at)
 }
 
-/// The genotype block, which ends with the record; gives GT's value, of type 0 where there is no GT.
+/// The genotype block, which ends with the record; gives GT's value, of type 0 at place 0 where there is no GT.
 fn read_formats(record: &[u8], border: usize, formats: u32, alleles: u32, facts: &Facts) -> Result<Value, Refusal> {
     let mut at = border;
     let mut gt = Value { code: 0, len: 0, first: 0, stop: 0 };

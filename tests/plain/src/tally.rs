@@ -10,7 +10,7 @@ use crate::types::width;
 #[derive(Debug, Clone, Copy, PartialEq, Eq)]
 pub struct Tally {
     pub site: Site,
-    /// People without a genotype: no GT, length 0, or an end of vector first.
+    /// People without a genotype: no GT, length 0 (a bare 00 too), or an end of vector first.
     pub without: u64,
     /// Missing alleles.
     pub missing: u64,

@@ -1,4 +1,5 @@
-//! Tight writing: values at the narrowest width that holds them, with keys and true lengths likewise.
+//! Tight writing: values at the narrowest width that holds them, with keys and true lengths likewise. A value of no
+//! elements is 01, 05 or 07 by its form; a bare 00 is read and never written.
 
 use crate::elements::{judge, Float, Text, END};
 use crate::refusal::Fault;

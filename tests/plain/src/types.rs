@@ -1,4 +1,5 @@
-//! The sixteen type codes in one fixed table, and what each may stand for.
+//! The sixteen type codes in one fixed table, and what each may stand for. Code 0 is unused but for the bare 00, a
+//! descriptor of code 0 and length 0, which is a whole value by itself.
 
 /// What the low half of a descriptor gives: the width of an element in bytes (0 for an unused code) and the uses
 /// that the type is allowed in.
@@ -13,6 +14,10 @@ pub(crate) const TEXT: u8 = 1;
 pub(crate) const INTEGER: u8 = 2;
 /// INFO values, and FORMAT values other than GT's.
 pub(crate) const ANY: u8 = 4;
+
+/// Where a bare 00 says that the value is missing: FILTER, INFO and FORMAT, GT included. A key or true length is taken
+/// as one integer and never as a value, so that 00 stays refused there.
+pub(crate) const MAY_BE_BARE: u8 = INTEGER | ANY;
 
 const UNUSED: Type = Type { width: 0, uses: 0 };
 

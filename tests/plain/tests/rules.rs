@@ -1,6 +1,7 @@
-//! Cases that the vectors don't reach: document 01's marked examples, long lists, and the limits of sizes and counts.
+//! Cases that the vectors don't reach: document 01's marked examples, long lists, the limits of sizes and counts, and
+//! the bare 00 at every descriptor.
 
-use plain::{call, choose, pair_at, read, shown, tally, Builder, Call, Facts, Refusal};
+use plain::{call, choose, fetch, info_start, pair_at, read, shown, tally, Builder, Call, Facts, Kind, Refusal};
 
 const FACTS: Facts = Facts { strings: 4, contigs: 1, people: 2, gt: 3 };
 const MISSING: i32 = i32::MIN;
@@ -276,7 +277,7 @@ fn walking_anywhere() {
     for at in [0, 49, 50, usize::MAX] {
         assert_eq!(pair_at(&sample(), at), None);
     }
-    let start = plain::info_start(&sample(), &FACTS).unwrap() as usize;
+    let start = info_start(&sample(), &FACTS).unwrap() as usize;
     let pair = pair_at(&sample(), start).unwrap();
     assert_eq!((pair.key, pair.code, pair.len, pair.first, pair.stop), (2, 1, 1, 42, 43));
     assert_eq!(pair_at(&sample(), 43), None);
@@ -307,4 +308,98 @@ fn room_for_end() {
     assert_eq!(builder.end(&mut buf[..GENOTYPE_COUNTS + 3]), refused(13, 0));
     assert_eq!(builder.end(&mut buf[..GENOTYPE_COUNTS + 4]), Ok(38));
     assert_eq!(read(&buf, &FACTS).map(|site| site.length), Ok(38));
+}
+
+/// The places of FILTER's, the INFO value's, the FORMAT value's and GT's descriptors in the record that `bare` makes.
+const VALUES: [usize; 4] = [35, 38, 41, 44];
+/// The places of the descriptors of the ID, the allele and the three keys.
+const OTHERS: [usize; 5] = [32, 33, 36, 39, 42];
+
+/// A record of one allele, one INFO field and two FORMAT fields, GT the second, with a bare 00 for each value.
+fn bare() -> Vec<u8> {
+    let mut record = vec![0; 32];
+    record.extend([0x07, 0x17, b'A', 0x00, 0x11, 0x02, 0x00]);
+    record.extend([0x11, 0x01, 0x00, 0x11, 0x03, 0x00]);
+    for (at, word) in [(0, 31), (4, 6), (SITE_COUNTS, 1 << 16 | 1), (GENOTYPE_COUNTS, 2 << 24 | 2)] {
+        set(&mut record, at, word);
+    }
+    record
+}
+
+/// A bare 00 is told with type 0, length 0 and the place just after it.
+#[test]
+fn bare_values_read_and_fetched() {
+    let record = bare();
+    let gt = |facts: &Facts| read(&record, facts).map(|site| (site.length, site.gt_type, site.gt_len, site.gt_first));
+    assert_eq!(gt(&FACTS), Ok((45, 0, 0, 45)));
+    assert_eq!(gt(&Facts { gt: 0, ..FACTS }), Ok((45, 0, 0, 0)));
+    let told = |kind, number| {
+        let field = fetch(&record, &FACTS, kind, number).unwrap();
+        (field.key, field.code, field.len, field.first, field.stop)
+    };
+    assert_eq!(told(Kind::Filter, 0), (0, 0, 0, 36, 36));
+    assert_eq!(told(Kind::Info, 0), (2, 0, 0, 39, 39));
+    assert_eq!(told(Kind::Format, 0), (1, 0, 0, 42, 42));
+    assert_eq!(told(Kind::Format, 1), (3, 0, 0, 45, 45));
+    let start = info_start(&record, &FACTS).unwrap() as usize;
+    let pair = pair_at(&record, start).unwrap();
+    assert_eq!((pair.key, pair.code, pair.len, pair.first, pair.stop), (2, 0, 0, 39, 39));
+    assert_eq!((start, pair_at(&record, 39), shown(&record[39..39], 0, 0)), (36, None, None));
+}
+
+/// With a bare 00 for GT nobody has a genotype, and a choice keeps key and descriptor.
+#[test]
+fn bare_values_tallied_and_chosen() {
+    let mut record = bare();
+    let counted = tally(&record, &FACTS).unwrap();
+    assert_eq!((counted.without, counted.missing, counted.counts), (2, 0, [0; 64]));
+    let mut buf = [0x5A; 46];
+    assert_eq!(choose(&record, &FACTS, &[1], &mut buf), Ok(45));
+    record[GENOTYPE_COUNTS] = 1;
+    assert_eq!((&buf[..45], buf[45]), (&record[..], 0x5A));
+    assert_eq!(choose(&bare(), &FACTS, &[], &mut buf), Ok(39));
+}
+
+/// 00 stands for no ID, allele, key or true length, and type 0 has no other length anywhere.
+#[test]
+fn type_0_refused() {
+    let with = |place: usize, descriptor: u8| {
+        let mut record = bare();
+        record[place] = descriptor;
+        read(&record, &FACTS)
+    };
+    for place in OTHERS {
+        assert_eq!(with(place, 0x00), refused(6, place as u32));
+    }
+    for place in VALUES.into_iter().chain(OTHERS) {
+        for length in 1..=15 {
+            assert_eq!(with(place, length << 4), refused(6, place as u32));
+        }
+    }
+    for length in 0..=15 {
+        assert_eq!(read_info(&[0xF1, length << 4, 0x0F, 0x00]), refused(6, VALUE + 1));
+    }
+}
+
+/// The builder writes no bare 00: a value of no elements is 01, 05 or 07.
+#[test]
+fn empty_values_built() {
+    let mut buf = [0; 64];
+    let mut builder = Builder::fresh();
+    builder.begin(&mut buf, FACTS, 0, 0, 0, 0).unwrap();
+    builder.id(&mut buf, b"").unwrap();
+    builder.allele(&mut buf, b"A").unwrap();
+    builder.filter(&mut buf, &[]).unwrap();
+    let after_filter = builder.clone();
+    builder.info_integers(&mut buf, 2, &[]).unwrap();
+    builder.format_integers(&mut buf, 1, 0, &[]).unwrap();
+    builder.format_integers(&mut buf, 3, 0, &[]).unwrap();
+    assert_eq!(builder.end(&mut buf), Ok(45));
+    let mut record = bare();
+    VALUES.into_iter().for_each(|place| record[place] = 0x01);
+    assert_eq!(buf[..45], record);
+    after_filter.clone().info_floats(&mut buf, 2, &[]).unwrap();
+    assert_eq!(buf[38], 0x05);
+    after_filter.clone().info_text(&mut buf, 2, b"").unwrap();
+    assert_eq!(buf[38], 0x07);
 }
