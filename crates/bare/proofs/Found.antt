@@ -1,9 +1,9 @@
 -- What is found and walked over as type 0 is a bare 00: no elements, just after a byte 00. And where GT is of type 0, nobody has a genotype.
 -- Rests on proofs/Values and on fetched's laws of what is found.
-use mathlib.Core.Path.{_≡_, refl, sym, _∙_, ap}
+use mathlib.Core.Path.{_≡_, refl, sym, _∙_}
 use mathlib.Core.List.{List, [], _∷_, _++_}
 use mathlib.Core.Bool.{Bool, true, false}
-use Prim.Native.Nat.{ℕ, zero, suc, _+_, _-_, _<_, _≤_}
+use Prim.Native.Nat.{ℕ, zero, suc, _+_, _-_}
 use native.Mathlib.Omega.{arith}
 use native.Mathlib.Nat.{sub-self}
 use lib.Dec.{leb, ltb, eqb}
@@ -37,7 +37,6 @@ use Rattle.fetched.proofs.FormatFields.{format-there, formats-field}
 use Rattle.fetched.proofs.Present.{paired-keyed}
 use Rattle.fetched.proofs.There.{blockEnd}
 use Rattle.walker.specs.Walk.{pairIn, pairAt, asPair}
-use Rattle.walker.specs.declared.Pair.{Pair}
 use Rattle.walker.specs.declared.Pair.the-variants.{Found as Pass, End}
 use Rattle.walker.proofs.Walks.{pair-field}
 use Rattle.bare.specs.Empty.{Empty}

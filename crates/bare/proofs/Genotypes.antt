@@ -1,13 +1,12 @@
 -- A genotype block whose bare 00 become 01 is read as it was, but for the type of a GT that was 00. Rests on proofs/Values and Steps, and
 -- on the definitions of genotypes.
-use mathlib.Core.Path.{_≡_, refl, sym, _∙_, ap}
+use mathlib.Core.Path.{_≡_, refl, _∙_}
 use mathlib.Core.List.{List, [], _∷_, _++_}
-use Prim.Native.Nat.{ℕ, zero, suc, _+_, _-_, _≤_}
+use Prim.Native.Nat.{ℕ, zero, suc, _+_, _-_}
 use native.Mathlib.Omega.{arith}
-use lib.ListN.{length, take, drop, length-drop}
+use lib.ListN.{take, drop, length-drop}
 use lib.Seq.{length-take-le, drop-at}
 use Rattle.types.specs.declared.Use.the-variants.{Format}
-use Rattle.values.specs.declared.Value.the-variants.{Present}
 use Rattle.vectors.specs.Sound.{sound}
 use Rattle.genotypes.specs.Formats.{formats, roleOf, gtNow, gtAt}
 use Rattle.genotypes.specs.declared.Gt.{Gt}
@@ -15,8 +14,8 @@ use Rattle.genotypes.specs.declared.Genotypes.the-variants.{Sound}
 use Rattle.fetched.proofs.FormatFields.{JudgedField, format-there, formats-field, keyed-integer}
 use Rattle.fetched.proofs.Fronts.{keyed-front}
 use Rattle.fetched.proofs.Inside.{drop-past}
-use Rattle.bare.specs.Ones.{asItIs, oneFor, codeFor, valueOne, pairOne, repeated, genotypeOnes}
-use Rattle.bare.proofs.Values.{sound-ones, drop-ones}
+use Rattle.bare.specs.Ones.{asItIs, oneFor, pairOne, repeated}
+use Rattle.bare.proofs.Values.{codeFor, sound-ones, drop-ones}
 use Rattle.bare.proofs.Steps.{valueOne-there, pairOne-there}
 
 -- where GT stands in what becomes of the block

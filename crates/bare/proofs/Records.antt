@@ -28,7 +28,7 @@ use Rattle.record.specs.Shown.{Shown, Field, showing, allelesThen, pairsShown, 
 use Rattle.record.specs.declared.Reading.the-variants.{Accepted}
 use Rattle.record.proofs.Accepted.{accepted, accepted-fits}
 use Rattle.fetched.proofs.Fronts.{field-take, field-append}
-use Rattle.bare.specs.Ones.{Rest, asItIs, oneFor, pastValue, valueOne, pastKey, pairOne, repeated, siteOnes, genotypeOnes, withOnes}
+use Rattle.bare.specs.Ones.{Rest, asItIs, pastValue, valueOne, pastKey, pairOne, repeated, siteOnes, genotypeOnes, withOnes}
 use Rattle.bare.proofs.Values.{length-oneFor}
 use Rattle.bare.proofs.Steps.{site-ones}
 use Rattle.bare.proofs.Genotypes.{Genotyped, genotypes-ones}

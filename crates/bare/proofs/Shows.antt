@@ -1,9 +1,9 @@
 -- A record whose bare 00 become 01 shows the same, since both are no integers. Each law is of a value and of whatever is made of what follows
 -- it, so none asks that the record is accepted. Rests on proofs/Values and on what a record shows.
-use mathlib.Core.Path.{_≡_, refl, sym, _∙_, ap}
+use mathlib.Core.Path.{_≡_, refl}
 use mathlib.Core.List.{List, [], _∷_, _++_}
 use mathlib.Core.Bool.{Bool, true, false}
-use Prim.Native.Nat.{ℕ, zero, suc, _+_, _-_, _<_, _≤_}
+use Prim.Native.Nat.{ℕ, zero, suc, _+_, _-_}
 use native.Mathlib.Omega.{arith}
 use lib.Dec.{eqb}
 use lib.ListN.{length, take, drop}
@@ -11,7 +11,7 @@ use lib.Seq.{length-take-le, drop-at}
 use borrow.Author.Tests.{eqb-true}
 use Rattle.words.specs.Pick.{pick}
 use Rattle.types.specs.declared.Use.{Use}
-use Rattle.types.specs.declared.Use.the-variants.{Id, Allele, Filter, Key, Info, Format}
+use Rattle.types.specs.declared.Use.the-variants.{Allele, Key, Info, Format}
 use Rattle.values.specs.Answers.{integerInside}
 use Rattle.values.specs.Values.{integer, present}
 use Rattle.values.specs.declared.Integer.{Integer}
@@ -21,8 +21,8 @@ use Rattle.values.specs.declared.Value.the-variants.{Present, Refused as NoValu
 use Rattle.record.specs.Shown.{Pair, Field, kindOf, elementsOf, showing, keyThen, pairsShown, fieldsShown, allelesThen}
 use Rattle.fetched.proofs.Fronts.{integer-front}
 use Rattle.fetched.proofs.Inside.{integer-inside, present-inside}
-use Rattle.bare.specs.Ones.{Rest, asItIs, oneFor, codeFor, pastValue, pastKey, valueOne, pairOne, repeated}
-use Rattle.bare.proofs.Values.{present-ones, elements-ones, drop-ones}
+use Rattle.bare.specs.Ones.{Rest, asItIs, pastValue, pastKey, valueOne, pairOne, repeated}
+use Rattle.bare.proofs.Values.{codeFor, present-ones, elements-ones, drop-ones}
 
 -- 01 is integers, as a bare 00 is
 kindOf-codeFor : (t : ℕ) → kindOf (codeFor t) ≡ kindOf t

@@ -1,14 +1,13 @@
 -- Where a descriptor 00 may stand, and where type 0 is refused. Rests on values' definitions.
-use mathlib.Core.Path.{_≡_, refl}
+use mathlib.Core.Path.{_≡_}
 use mathlib.Core.List.{List, _∷_}
-use mathlib.Core.Bool.{Bool, true, false}
+use mathlib.Core.Bool.{true, false}
 use Prim.Native.Nat.{ℕ, _+_, _*_, _/_, _%_, _<_}
 use native.Mathlib.Omega.{arith}
 use borrow.Author.Tests.{ne-eqb}
-use Rattle.words.specs.Pick.{pick}
+use Rattle.words.proofs.Pick.{pick-same}
 use Rattle.types.specs.Rows.{rowOf, allowed}
 use Rattle.types.specs.declared.Use.{Use}
-use Rattle.types.specs.declared.Use.the-variants.{Id, Allele, Filter, Key, Length, Info, Format, Gt}
 use Rattle.values.specs.Answers.{noInteger, noDescriptor, typed}
 use Rattle.values.specs.Values.{integer, mayStand, described}
 
@@ -22,16 +21,12 @@ unfolding described mayStand
 refused-bare role at rest h = rw h
 
 -- type 0 with another length than 0
-same-either : (b : Bool) → pick b false false ≡ false
-same-either true = refl
-same-either false = refl
-
 pub refused-length : (role : Use) (n at : ℕ) (rest : List ℕ) → 0 < n → described role at (n * 16 ∷ rest) ≡ noDescriptor 6 at
 unfolding described mayStand
 refused-length role n at rest h =
     let low : n * 16 % 16 ≡ 0 = omega arith in
     let high : n * 16 / 16 ≡ n = omega arith in
-    rw (low, high, ne-eqb n 0 (λ e. omega arith), same-either (allowed (rowOf 0) role))
+    rw (low, high, ne-eqb n 0 (λ e. omega arith), pick-same (allowed (rowOf 0) role) false)
 
 -- type 0 for the one integer of a key or a true length, whatever its length
 pub refused-integer : (role : Use) (n at : ℕ) (rest : List ℕ) → allowed (rowOf 0) role ≡ false → integer role at (n * 16 ∷ rest) ≡ noInteger 6 at

@@ -1,14 +1,14 @@
 -- Steps through the site block whose bare 00 become 01: each comes to the same place, before what becomes of the rest. Rests on proofs/Values
 -- and on the definitions of site.
 use mathlib.Core.Path.{_≡_, refl, sym, _∙_, ap}
-use mathlib.Core.List.{List, [], _∷_, _++_}
+use mathlib.Core.List.{List, [], _++_}
 use mathlib.Core.Bool.{Bool, true, false}
 use Prim.Native.Nat.{ℕ, zero, suc, _+_, _-_, _<_, _≤_}
 use native.Mathlib.Omega.{arith}
 use native.Mathlib.Nat.{sub-self, zero-div}
 use lib.Dec.{eqb}
 use borrow.Author.Tests.{eqb-true}
-use lib.ListN.{length, take, drop, length-drop}
+use lib.ListN.{length, take, drop}
 use lib.Seq.{length-take-le, drop-at}
 use Rattle.words.specs.Pick.{pick}
 use Rattle.types.specs.Rows.{widthOf}
@@ -20,22 +20,22 @@ use Rattle.values.specs.declared.Integer.{Integer}
 use Rattle.values.specs.declared.Integer.the-variants.{One, Refused as NoInteger}
 use Rattle.values.specs.declared.Value.{Value}
 use Rattle.values.specs.declared.Value.the-variants.{Present, Refused as NoValue}
-use Rattle.vectors.specs.Vectors.{shownNumbers}
-use Rattle.vectors.specs.Sound.{sound}
+use Rattle.vectors.specs.Vectors.{judged, shownNumbers}
+use Rattle.vectors.specs.Sound.{mostOf, judgedFrom, soundly, sound}
 use Rattle.vectors.specs.declared.Judged.{Judged}
 use Rattle.vectors.specs.declared.Judged.the-variants.{Sound, Refused as Unsound}
-use Rattle.site.specs.Steps.{then, times, valueStep, judgedStep, noStep, ended}
-use Rattle.site.specs.Alleles.{allele, alleleValue, alleleBytes}
+use Rattle.site.specs.Steps.{then, times, valueStep}
+use Rattle.site.specs.Alleles.{allele, alleleValue}
 use Rattle.site.specs.Filters.{filters, filtered, filterValue, filter}
 use Rattle.site.specs.Site.{info, infoValue, site}
 use Rattle.site.specs.declared.Step.{Step}
-use Rattle.site.specs.declared.Step.the-variants.{At, Refused as NoStep}
+use Rattle.site.specs.declared.Step.the-variants.{At}
 use Rattle.fetched.proofs.Agree.{sound-there, allele-value, filter-value, went}
 use Rattle.fetched.proofs.FormatFields.{keyed-integer}
 use Rattle.fetched.proofs.Fronts.{keyed-front}
 use Rattle.fetched.proofs.Inside.{keyed-inside, present-inside, drop-past}
-use Rattle.bare.specs.Ones.{Rest, asItIs, oneFor, codeFor, valueOne, pairOne, repeated, siteOnes}
-use Rattle.bare.proofs.Values.{present-zero, present-ones, sound-ones, part-ones, drop-ones}
+use Rattle.bare.specs.Ones.{Rest, oneFor, valueOne, pairOne, repeated, siteOnes}
+use Rattle.bare.proofs.Values.{codeFor, present-zero, present-ones, soundly-ones, sound-ones, part-ones, drop-ones}
 
 -- a step that comes to the same place in what becomes of the block, and behind it stands what becomes of the rest
 abbrev pub Passes : (ℕ → List ℕ → Step) → (Rest → Rest) → Type 0
@@ -82,48 +82,64 @@ then-passes step one next rest f on at l e h =
     let a = f rest at l (w .place) (w .here) in
     rw (a .0, a .1) (on (w .place) (drop (w .place - at) l) e (w .on))
 
--- ID
-id-passes : Passes (λ at l. valueStep (sound 1 0 Id at l)) (valueOne 1 Id)
-id-passes rest at l q h = by-value (sound 1 0 Id at l) refl h
-  where
-    by-value : (v : Value) → sound 1 0 Id at l ≡ v → valueStep v ≡ At q
-        → (valueStep (sound 1 0 Id at (valueOne 1 Id rest at l)) ≡ At q) × (drop (q - at) (valueOne 1 Id rest at l) ≡ rest q (drop (q - at) l)) × (at ≤ q)
-    by-value (NoValue r) p e = let z : _≡_ {A = ℕ} 0 1 = cc in absurd (omega arith)
-    by-value (Present t n first stop) p e =
-        let there = sound-there 1 0 Id at l t n first stop p in
-        let i = rw there at (present-inside 1 Id at l) in
-        let k : stop ≡ q = cc in
-        let behind = drop-valueOne 1 Id rest at l t n first stop there in (
-          rw (valueOne-there 1 Id rest at l t n first stop there, sound-ones 1 0 Id at l (rest stop (drop (stop - at) l)) t n first stop p, k),
-          rw k at behind,
-          omega (arith, i .0, i .1),
-        )
-
--- an allele
-allele-passes : Passes allele (valueOne 1 Allele)
-unfolding allele
-allele-passes rest at l q h = by-value (present 1 Allele at l) refl h
+-- a value that is judged by its use: where the judgement lets it pass, to where it ends, and lets it pass with 01 for its 00
+value-passes : (role : Use) (judge : ℕ → List ℕ → Value → Step) → ((at : ℕ) (l : List ℕ) (v : Value) (q : ℕ) → judge at l v ≡ At q → valueStep v ≡ At q)
+    → ((at : ℕ) (l m : List ℕ) (t n first stop : ℕ) → present 1 role at l ≡ Present t n first stop → judge at l (Present t n first stop) ≡ At stop
+    → judge at (oneFor (take (stop - at) l) ++ m) (Present (codeFor t) n first stop) ≡ At stop)
+    → Passes (λ at l. judge at l (present 1 role at l)) (valueOne 1 role)
+value-passes role judge passed ones rest at l q h = by-value (present 1 role at l) refl h
   where
     new : List ℕ
-    new = valueOne 1 Allele rest at l
+    new = valueOne 1 role rest at l
 
-    by-value : (v : Value) → present 1 Allele at l ≡ v → alleleValue at l v ≡ At q
-        → (alleleValue at new (present 1 Allele at new) ≡ At q) × (drop (q - at) new ≡ rest q (drop (q - at) l)) × (at ≤ q)
-    by-value (NoValue r) p e = let z : _≡_ {A = ℕ} 0 1 = cc in absurd (omega arith)
+    by-value : (v : Value) → present 1 role at l ≡ v → judge at l v ≡ At q
+        → (judge at new (present 1 role at new) ≡ At q) × (drop (q - at) new ≡ rest q (drop (q - at) l)) × (at ≤ q)
+    by-value (NoValue r) p e = let none = passed at l (NoValue r) q e in let z : _≡_ {A = ℕ} 0 1 = cc in absurd (omega arith)
     by-value (Present t n first stop) p e =
-        let i = rw p at (present-inside 1 Allele at l) in
-        let passed = allele-value at l (Present t n first stop) e in
+        let i = rw p at (present-inside 1 role at l) in
+        let ends = passed at l (Present t n first stop) q e in
         let k : stop ≡ q = cc in
-        let behind = drop-valueOne 1 Allele rest at l t n first stop p in
-        let m = rest stop (drop (stop - at) l) in (
-          rw (
-            valueOne-there 1 Allele rest at l t n first stop p,
-            present-ones 1 Allele at l m t n first stop p,
-            part-ones at first stop l m (i .0) (i .1) (i .2),
-          ) e,
-          rw k at behind,
+        let m = rest stop (drop (stop - at) l) in
+        let judged : judge at l (Present t n first stop) ≡ At stop = e ∙ ap At (sym k) in (
+          rw (valueOne-there 1 role rest at l t n first stop p, present-ones 1 role at l m t n first stop p)
+              (ones at l m t n first stop p judged ∙ ap At k),
+          rw k at (drop-valueOne 1 role rest at l t n first stop p),
           omega (arith, i .0, i .1),
         )
+
+-- ID
+soundly-same : (at : ℕ) (l : List ℕ) (v : Value) (q : ℕ) → valueStep (soundly 0 Id at l v) ≡ At q → soundly 0 Id at l v ≡ v
+soundly-same at l (NoValue r) q h = refl
+soundly-same at l (Present t n first stop) q h = by-elements (judged (mostOf Id 0 t) t n (take (stop - first) (drop (first - at) l))) h
+  where
+    by-elements : (j : Judged) → valueStep (judgedFrom first (Present t n first stop) j) ≡ At q
+        → judgedFrom first (Present t n first stop) j ≡ Present t n first stop
+    by-elements Sound e = refl
+    by-elements (Unsound r) e = cc
+
+id-passed : (at : ℕ) (l : List ℕ) (v : Value) (q : ℕ) → valueStep (soundly 0 Id at l v) ≡ At q → valueStep v ≡ At q
+id-passed at l v q h = rw (soundly-same at l v q h) at h
+
+id-ones : (at : ℕ) (l m : List ℕ) (t n first stop : ℕ) → present 1 Id at l ≡ Present t n first stop
+    → valueStep (soundly 0 Id at l (Present t n first stop)) ≡ At stop
+    → valueStep (soundly 0 Id at (oneFor (take (stop - at) l) ++ m) (Present (codeFor t) n first stop)) ≡ At stop
+id-ones at l m t n first stop p h =
+    ap valueStep (soundly-ones 1 0 Id at l m t n first stop p (soundly-same at l (Present t n first stop) stop h))
+
+id-passes : Passes (λ at l. valueStep (sound 1 0 Id at l)) (valueOne 1 Id)
+unfolding sound
+id-passes = value-passes Id (λ at l v. valueStep (soundly 0 Id at l v)) id-passed id-ones
+
+-- an allele
+allele-ones : (at : ℕ) (l m : List ℕ) (t n first stop : ℕ) → present 1 Allele at l ≡ Present t n first stop
+    → alleleValue at l (Present t n first stop) ≡ At stop → alleleValue at (oneFor (take (stop - at) l) ++ m) (Present (codeFor t) n first stop) ≡ At stop
+allele-ones at l m t n first stop p h =
+    let i = rw p at (present-inside 1 Allele at l) in
+    rw (part-ones at first stop l m (i .0) (i .1) (i .2)) h
+
+allele-passes : Passes allele (valueOne 1 Allele)
+unfolding allele
+allele-passes = value-passes Allele alleleValue (λ at l v q. allele-value at l v {q = q}) allele-ones
 
 -- FILTER
 filtered-none : (strings t : ℕ) → filtered strings t [] ≡ Sound
@@ -145,31 +161,16 @@ filtered-ones strings at l t n first stop h = by-type (eqb t 0) refl
         rw (none, filtered-none strings 1, filtered-none strings t)
     by-type false e = refl
 
+filter-ones : (strings at : ℕ) (l m : List ℕ) (t n first stop : ℕ) → present 1 Filter at l ≡ Present t n first stop
+    → filterValue strings at l (Present t n first stop) ≡ At stop
+    → filterValue strings at (oneFor (take (stop - at) l) ++ m) (Present (codeFor t) n first stop) ≡ At stop
+filter-ones strings at l m t n first stop p h =
+    let i = rw p at (present-inside 1 Filter at l) in
+    rw (part-ones at first stop l m (i .0) (i .1) (i .2), filtered-ones strings at l t n first stop p) h
+
 filter-passes : (strings : ℕ) → Passes (filter strings) (valueOne 1 Filter)
 unfolding filter
-filter-passes strings rest at l q h = by-value (present 1 Filter at l) refl h
-  where
-    new : List ℕ
-    new = valueOne 1 Filter rest at l
-
-    by-value : (v : Value) → present 1 Filter at l ≡ v → filterValue strings at l v ≡ At q
-        → (filterValue strings at new (present 1 Filter at new) ≡ At q) × (drop (q - at) new ≡ rest q (drop (q - at) l)) × (at ≤ q)
-    by-value (NoValue r) p e = let z : _≡_ {A = ℕ} 0 1 = cc in absurd (omega arith)
-    by-value (Present t n first stop) p e =
-        let i = rw p at (present-inside 1 Filter at l) in
-        let passed = filter-value strings at l (Present t n first stop) e in
-        let k : stop ≡ q = cc in
-        let behind = drop-valueOne 1 Filter rest at l t n first stop p in
-        let m = rest stop (drop (stop - at) l) in (
-          rw (
-            valueOne-there 1 Filter rest at l t n first stop p,
-            present-ones 1 Filter at l m t n first stop p,
-            part-ones at first stop l m (i .0) (i .1) (i .2),
-            filtered-ones strings at l t n first stop p,
-          ) e,
-          rw k at behind,
-          omega (arith, i .0, i .1),
-        )
+filter-passes strings = value-passes Filter (filterValue strings) (λ at l v q. filter-value strings at l v {q = q}) (filter-ones strings)
 
 -- a key that is there, as it is, before what becomes of its value
 pub pairOne-there : (vectors : ℕ) (role : Use) (rest : Rest) (at : ℕ) (l : List ℕ) (key next : ℕ) → integer Key at l ≡ One key next

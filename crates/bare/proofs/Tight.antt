@@ -28,7 +28,7 @@ use Rattle.rules.specs.Values.{givenAs}
 use Rattle.built.specs.Records.{joined, textBytes, infoBytes, fieldBytes, siteBytes, genotypeBytes, recordBytes, All, KeepsAllele, KeepsInfo, KeepsFields, Keeps}
 use Rattle.built.specs.Runs.{gives}
 use Rattle.built.specs.Builds.{Tight}
-use Rattle.built.proofs.Values.{written-type, one-vector, present-given, drop-front, integer-bytes, key-bits, allowed-info}
+use Rattle.built.proofs.Values.{written-type, one-vector, present-given, drop-front, integer-bytes, allowed-info}
 use Rattle.built.proofs.Blocks.{allowed-format, length-person}
 use Rattle.built.proofs.Front.{siteFor, length-recordBytes, fits-record, site-block, genotype-block}
 use Rattle.built.proofs.Builds.{wrote-record}

@@ -7,8 +7,8 @@ use mathlib.Core.Bool.{Bool, true, false}
 use Prim.Native.Nat.{ℕ, zero, suc, _+_, _-_, _*_, _/_, _%_, _<_, _≤_}
 use native.Mathlib.Omega.{arith}
 use native.Mathlib.Nat.{mul-zero, zero-mul, zero-div, div-mul-le-self}
-use lib.Dec.{eqb, ltb, leb}
-use lib.ListN.{length, take, drop, length-append, length-take, length-drop}
+use lib.Dec.{eqb, ltb}
+use lib.ListN.{length, take, drop, length-drop}
 use lib.Seq.{length-take-le, take-at, drop-at, take-take}
 use borrow.Author.Tests.{eqb-true, eqb-false, ltb-false, ne-eqb, le-leb}
 use Rattle.words.specs.Pick.{pick}
@@ -21,16 +21,20 @@ use Rattle.values.specs.declared.Integer.{Integer}
 use Rattle.values.specs.declared.Integer.the-variants.{One, Refused as NoInteger}
 use Rattle.values.specs.declared.Descriptor.the-variants.{Typed}
 use Rattle.values.specs.declared.Value.the-variants.{Present}
-use Rattle.values.proofs.Stand.{mayStand-wide}
+use Rattle.values.proofs.Stand.{mayStand-wide, mayStand-zero}
 use Rattle.vectors.specs.Vectors.{vectors as vectorsOf, judged, shownNumbers}
-use Rattle.vectors.specs.Sound.{sound, mostOf}
+use Rattle.vectors.specs.Sound.{mostOf, soundly, sound}
 use Rattle.vectors.specs.declared.Judged.the-variants.{Sound}
 use Rattle.record.specs.Shown.{elementsOf}
-use Rattle.fetched.proofs.Agree.{sound-there, sound-judged}
+use Rattle.fetched.proofs.Agree.{sound-there, soundly-judged}
 use Rattle.fetched.proofs.Inside.{present-inside}
 use Rattle.fetched.proofs.Present.{present-typed}
 use Rattle.fetched.proofs.Fronts.{present-front, take-past, numbers-take, shownNumbers-numbers}
-use Rattle.bare.specs.Ones.{oneFor, codeFor}
+use Rattle.bare.specs.Ones.{oneFor}
+
+-- the type of a value once its descriptor 00 is 01
+abbrev pub codeFor : ℕ → ℕ
+codeFor t = pick (eqb t 0) 1 t
 
 -- a use that takes a bare 00 takes integers
 one-allowed : (role : Use) → allowed (rowOf 0) role ≡ true → allowed (rowOf 1) role ≡ true
@@ -52,22 +56,13 @@ pub record Bare (role : Use) (at : ℕ) (l : List ℕ) (n first : ℕ) : Type 0 
   pub next : first ≡ at + 1
   pub takes : allowed (rowOf 0) role ≡ true
 
-stands-zero : (role : Use) (n : ℕ) → mayStand role 0 n ≡ true → (allowed (rowOf 0) role ≡ true) × (n ≡ 0)
-unfolding mayStand
-stands-zero role n h = by-tests (allowed (rowOf 0) role) (eqb n 0) refl refl h
-  where
-    by-tests : (a b : Bool) → allowed (rowOf 0) role ≡ a → eqb n 0 ≡ b → pick a b false ≡ true → (allowed (rowOf 0) role ≡ true) × (n ≡ 0)
-    by-tests true true p q e = (p, eqb-true n 0 q)
-    by-tests true false p q e = let z : _≡_ {A = ℕ} 0 1 = cc in absurd (omega arith)
-    by-tests false b p q e = let z : _≡_ {A = ℕ} 0 1 = cc in absurd (omega arith)
-
 pub described-zero : (role : Use) (at : ℕ) (l : List ℕ) (n first : ℕ) → described role at l ≡ Typed 0 n first → Bare role at l n first
 unfolding described
 described-zero role at [] n first h = let z : _≡_ {A = ℕ} 0 1 = cc in absurd (omega arith)
 described-zero role at (d ∷ rest) n first h = by-tests (mayStand role (d % 16) (d / 16)) (ltb (d / 16) 15) (trueLength (at + 1) rest) refl refl h
   where
     bare : d % 16 ≡ 0 → mayStand role (d % 16) (d / 16) ≡ true → (allowed (rowOf 0) role ≡ true) × (d ≡ 0)
-    bare e p = let k = stands-zero role (d / 16) (rw e at p) in (k .0, omega (arith, k .1))
+    bare e p = let k = mayStand-zero role (d / 16) (rw e at p) in (k .0, omega (arith, k .1))
 
     by-tests : (a b : Bool) (i : Integer) → mayStand role (d % 16) (d / 16) ≡ a → ltb (d / 16) 15 ≡ b
         → pick a (pick b (typed (d % 16) (d / 16) (at + 1)) (withLength (d % 16) i)) (noDescriptor 6 at) ≡ Typed 0 n first → Bare role at (d ∷ rest) n first
@@ -237,24 +232,30 @@ judged-none : (most t : ℕ) → judged most t 0 [] ≡ Sound
 unfolding judged vectorsOf
 judged-none most t = rw (zero-div (widthOf t))
 
+pub soundly-ones : (vectors alleles : ℕ) (role : Use) (at : ℕ) (l m : List ℕ) (t n first stop : ℕ) → present vectors role at l ≡ Present t n first stop
+    → soundly alleles role at l (Present t n first stop) ≡ Present t n first stop
+    → soundly alleles role at (oneFor (take (stop - at) l) ++ m) (Present (codeFor t) n first stop) ≡ Present (codeFor t) n first stop
+soundly-ones vectors alleles role at l m t n first stop p h =
+    let i = rw p at (present-inside vectors role at l) in
+    let j = soundly-judged alleles role at l t n first stop h in
+    rw (part-ones at first stop l m (i .0) (i .1) (i .2), by-type j (eqb t 0) refl)
+  where
+    part : List ℕ
+    part = take (stop - first) (drop (first - at) l)
+
+    by-type : judged (mostOf role alleles t) t n part ≡ Sound → (b : Bool) → eqb t 0 ≡ b
+        → judged (mostOf role alleles (pick b 1 t)) (pick b 1 t) n part ≡ Sound
+    by-type j true e =
+        let z = eqb-true t 0 e in
+        let b = present-zero vectors role at l n first stop (rw z at p) in
+        let none : stop - first ≡ 0 = omega (arith, b .1) in
+        rw (none, b .0 .none) (judged-none (mostOf role alleles 1) 1)
+    by-type j false e = j
+
 pub sound-ones : (vectors alleles : ℕ) (role : Use) (at : ℕ) (l m : List ℕ) (t n first stop : ℕ)
     → sound vectors alleles role at l ≡ Present t n first stop
     → sound vectors alleles role at (oneFor (take (stop - at) l) ++ m) ≡ Present (codeFor t) n first stop
 unfolding sound
 sound-ones vectors alleles role at l m t n first stop h =
     let p = sound-there vectors alleles role at l t n first stop h in
-    let j = sound-judged vectors alleles role at l t n first stop h in
-    let i = rw p at (present-inside vectors role at l) in
-    rw (present-ones vectors role at l m t n first stop p, part-ones at first stop l m (i .0) (i .1) (i .2), by-type p j (eqb t 0) refl)
-  where
-    part : List ℕ
-    part = take (stop - first) (drop (first - at) l)
-
-    by-type : present vectors role at l ≡ Present t n first stop → judged (mostOf role alleles t) t n part ≡ Sound → (b : Bool) → eqb t 0 ≡ b
-        → judged (mostOf role alleles (pick b 1 t)) (pick b 1 t) n part ≡ Sound
-    by-type p j true e =
-        let z = eqb-true t 0 e in
-        let b = present-zero vectors role at l n first stop (rw z at p) in
-        let none : stop - first ≡ 0 = omega (arith, b .1) in
-        rw (none, b .0 .none) (judged-none (mostOf role alleles 1) 1)
-    by-type p j false e = j
+    rw (present-ones vectors role at l m t n first stop p) (soundly-ones vectors alleles role at l m t n first stop p (rw p at h))

@@ -19,6 +19,7 @@ use Rattle.fixed.specs.declared.Site.{Site}
 abbrev pub Rest : Type 0
 Rest = ℕ → List ℕ → List ℕ
 
+-- it stays
 abbrev pub asItIs : Rest
 asItIs at l = l
 
@@ -62,7 +63,3 @@ withOnes t s =
     take idAt s
     ++ (siteOnes (t .alleles) (t .infos) idAt (drop idAt (take (t .border) s))
     ++ (genotypeOnes (t .people) (t .formats) (t .border) (drop (t .border) (take (t .length) s)) ++ drop (t .length) s))
-
--- the type of a value once its 00 is 01
-abbrev pub codeFor : ℕ → ℕ
-codeFor t = pick (eqb t 0) 1 t

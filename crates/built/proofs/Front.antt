@@ -2,14 +2,14 @@
 -- that a site fits.
 use mathlib.Core.Path.{_≡_, refl}
 use mathlib.Core.List.{List, _++_, append-assoc}
-use mathlib.Core.Bool.{Bool, true, false}
+use mathlib.Core.Bool.{false}
 use Prim.Native.Nat.{ℕ, zero, suc, _+_, _-_, _<_, _≤_}
 use native.Mathlib.Omega.{arith}
 use lib.Dec.{ltb}
 use lib.ListN.{length, take, drop, length-append}
 use lib.Seq.{take-at, drop-at}
 use borrow.Author.Tests.{ltb-false, eq-eqb, ne-eqb}
-use Rattle.words.specs.Pick.{pick}
+use Rattle.words.proofs.Pick.{pick-zero}
 use Rattle.words.specs.Words.{bytes, outside}
 use Rattle.words.proofs.Words.{number-bytes}
 use Rattle.fixed.specs.Layout.{indivAt, chromAt, posAt, rlenAt, countsAt, peopleAt, qualAt, idAt, countsOf, membersOf, field, posWrong, rlenWrong, peopleWrong, qualWrong}
@@ -83,10 +83,6 @@ fields-front people r m b h i c p =
     }
 
 -- the rules of the fixed fields: none gives 5
-passed : (b : Bool) (x : ℕ) → pick b 5 x ≡ 0 → (b ≡ false) × (x ≡ 0)
-passed true x h = absurd (omega arith)
-passed false x h = (refl, h)
-
 record Right (f : Facts) (r : Shown) : Type 0 where
   chrom : outside (f .contigs) (r .chrom) ≡ false
   pos : posWrong (r .pos) ≡ false
@@ -97,11 +93,11 @@ record Right (f : Facts) (r : Shown) : Type 0 where
 fields-right : (f : Facts) (r : Shown) → fieldsNumber f (r .chrom) (r .pos) (r .rlen) (r .qual) ≡ 0 → Right f r
 unfolding fieldsNumber
 fields-right f r h =
-    let a = passed (outside (f .contigs) (r .chrom)) _ h in
-    let b = passed (posWrong (r .pos)) _ (a .1) in
-    let c = passed (rlenWrong (r .rlen)) _ (b .1) in
-    let d = passed (qualWrong (r .qual)) _ (c .1) in
-    let e = passed (ltb 16777215 (f .people)) 0 (d .1) in
+    let a = pick-zero (outside (f .contigs) (r .chrom)) 5 _ (omega arith) h in
+    let b = pick-zero (posWrong (r .pos)) 5 _ (omega arith) (a .1) in
+    let c = pick-zero (rlenWrong (r .rlen)) 5 _ (omega arith) (b .1) in
+    let d = pick-zero (qualWrong (r .qual)) 5 _ (omega arith) (c .1) in
+    let e = pick-zero (ltb 16777215 (f .people)) 5 0 (omega arith) (d .1) in
     record { chrom = a .0; pos = b .0; rlen = c .0; qual = d .0; people = ltb-false 16777215 (f .people) (e .0) }
 
 -- there are FORMAT fields for people only

@@ -1,5 +1,5 @@
 -- A sound FORMAT value of everybody gives a sound value of the chosen people. Rests on fetched's Fronts and proofs/Judging.
-use mathlib.Core.Path.{_≡_, refl}
+use mathlib.Core.Path.{_≡_}
 use mathlib.Core.List.{List, _++_}
 use mathlib.Core.Bool.{true}
 use Prim.Native.Nat.{ℕ, _+_, _-_, _*_, _≤_}

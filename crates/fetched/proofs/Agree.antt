@@ -57,13 +57,18 @@ from-judged : (first : ℕ) (v : Value) (j : Judged) {t n a b : ℕ} → judgedF
 from-judged first v Sound h = refl
 from-judged first v (Unsound r) h = cc
 
+pub soundly-judged : (alleles : ℕ) (role : Use) (at : ℕ) (l : List ℕ) (t n first stop : ℕ)
+    → soundly alleles role at l (Present t n first stop) ≡ Present t n first stop
+    → judged (mostOf role alleles t) t n (take (stop - first) (drop (first - at) l)) ≡ Sound
+soundly-judged alleles role at l t n first stop h =
+    from-judged first (Present t n first stop) (judged (mostOf role alleles t) t n (take (stop - first) (drop (first - at) l))) h
+
 pub sound-judged : (vectors alleles : ℕ) (role : Use) (at : ℕ) (l : List ℕ) (t n first stop : ℕ)
     → sound vectors alleles role at l ≡ Present t n first stop
     → judged (mostOf role alleles t) t n (take (stop - first) (drop (first - at) l)) ≡ Sound
 unfolding sound
 sound-judged vectors alleles role at l t n first stop h =
-    let p = sound-there vectors alleles role at l t n first stop h in
-    from-judged first (Present t n first stop) (judged (mostOf role alleles t) t n (take (stop - first) (drop (first - at) l))) (rw p at h)
+    soundly-judged alleles role at l t n first stop (rw (sound-there vectors alleles role at l t n first stop h) at h)
 
 -- past a sound value, past the value
 pub sound-past : (v w : Value) {q : ℕ} → ((t n first stop : ℕ) → v ≡ Present t n first stop → w ≡ Present t n first stop)

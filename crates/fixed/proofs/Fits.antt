@@ -2,12 +2,13 @@
 use mathlib.Core.Path.{_≡_, refl}
 use mathlib.Core.List.{List}
 use mathlib.Core.Bool.{Bool, true, false}
-use Prim.Native.Nat.{ℕ, _+_, _≤_, _<_}
+use Prim.Native.Nat.{ℕ, _+_, _≤_}
 use native.Mathlib.Omega.{arith}
 use lib.Dec.{ltb, eqb}
 use lib.ListN.{length}
 use borrow.Author.Tests.{ltb-false, le-ltb, eqb-true, eq-eqb}
 use Rattle.words.specs.Pick.{pick}
+use Rattle.words.proofs.Pick.{pick-zero}
 use Rattle.words.specs.Words.{outside}
 use Rattle.values.specs.declared.Refusal.{Refusal}
 use Rattle.fixed.specs.Layout.{indivAt, chromAt, posAt, rlenAt, countsAt, peopleAt, qualAt, idAt, allelesIn, infosIn, formatsIn, peopleIn, mostBytes, field, posWrong, rlenWrong, countsWrong, peopleWrong, qualWrong}
@@ -83,10 +84,6 @@ blocks-lends s b w l =
     rw (a, y, le-ltb (length s) 8 (omega arith), le-ltb mostBytes w m, le-ltb (length s) w d, le-ltb b idAt i)
 
 -- no field's place is told where each keeps its rule
-passed : (c : Bool) (p x : ℕ) → 0 < p → pick c p x ≡ 0 → (c ≡ false) × (x ≡ 0)
-passed true p x some h = absurd (omega arith)
-passed false p x some h = (refl, h)
-
 record Right (f : Facts) (s : List ℕ) : Type 0 where
   chrom : outside (f .contigs) (field chromAt s) ≡ false
   pos : posWrong (field posAt s) ≡ false
@@ -98,12 +95,12 @@ record Right (f : Facts) (s : List ℕ) : Type 0 where
 none-wrong : (f : Facts) (s : List ℕ) → wrongAt f s ≡ 0 → Right f s
 unfolding wrongAt
 none-wrong f s h =
-    let e1 = passed (outside (f .contigs) (field chromAt s)) chromAt _ (omega arith) h in
-    let e2 = passed (posWrong (field posAt s)) posAt _ (omega arith) (e1 .1) in
-    let e3 = passed (rlenWrong (field rlenAt s)) rlenAt _ (omega arith) (e2 .1) in
-    let e4 = passed (qualWrong (field qualAt s)) qualAt _ (omega arith) (e3 .1) in
-    let e5 = passed (countsWrong (allelesIn (field countsAt s))) countsAt _ (omega arith) (e4 .1) in
-    let e6 = passed (peopleWrong (f .people) (formatsIn (field peopleAt s)) (peopleIn (field peopleAt s))) peopleAt 0 (omega arith) (e5 .1) in
+    let e1 = pick-zero (outside (f .contigs) (field chromAt s)) chromAt _ (omega arith) h in
+    let e2 = pick-zero (posWrong (field posAt s)) posAt _ (omega arith) (e1 .1) in
+    let e3 = pick-zero (rlenWrong (field rlenAt s)) rlenAt _ (omega arith) (e2 .1) in
+    let e4 = pick-zero (qualWrong (field qualAt s)) qualAt _ (omega arith) (e3 .1) in
+    let e5 = pick-zero (countsWrong (allelesIn (field countsAt s))) countsAt _ (omega arith) (e4 .1) in
+    let e6 = pick-zero (peopleWrong (f .people) (formatsIn (field peopleAt s)) (peopleIn (field peopleAt s))) peopleAt 0 (omega arith) (e5 .1) in
     record { chrom = e1 .0; pos = e2 .0; rlen = e3 .0; qual = e4 .0; counts = e5 .0; people = e6 .0 }
 
 wrong-none : (f : Facts) (s : List ℕ) → Right f s → wrongAt f s ≡ 0

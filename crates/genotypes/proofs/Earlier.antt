@@ -10,7 +10,7 @@ use lib.ListN.{length, getD, take, drop}
 use lib.Seq.{drop-cons, take-suc, take-add, take-length}
 use Rattle.words.specs.Lists.{among}
 use Rattle.words.specs.Pick.{pick}
-use Rattle.vectors.proofs.Plain.{pick-same}
+use Rattle.words.proofs.Pick.{pick-test}
 
 -- of two tests either may be asked first
 either : (a b c : Bool) → pick a true (pick b true c) ≡ pick b true (pick a true c)
@@ -21,11 +21,11 @@ either true false c = refl
 -- among two lists, the later looked at first
 among-append : (key : ℕ) (xs ys : List ℕ) → among key (xs ++ ys) ≡ pick (among key ys) true (among key xs)
 unfolding among
-among-append key [] ys = sym (pick-same (among key ys))
+among-append key [] ys = sym (pick-test (among key ys))
 among-append key (x ∷ xs) ys = rw (among-append key xs ys) (either (eqb x key) (among key ys) (among key xs))
 
 -- among the first ones, of which those from a place on are looked at first
-pub nearest : (keys : List ℕ) (key from to : ℕ) → from ≤ to
+nearest : (keys : List ℕ) (key from to : ℕ) → from ≤ to
     → among key (take to keys) ≡ pick (among key (take (to - from) (drop from keys))) true (among key (take from keys))
 nearest keys key from to h =
     let parts : to ≡ from + (to - from) = omega arith in

@@ -10,13 +10,9 @@ use lib.Seq.{sets, sets-eq, take-append-seam}
 use native.Mathlib.Omega.{arith}
 use borrow.Author.Tests.{lt-ltb, le-ltb, ltb-false, eq-eqb, ne-eqb}
 use Rattle.words.specs.Pick.{pick}
+use Rattle.words.proofs.Pick.{pick-same}
 use Rattle.hexadecimal.specs.Hexadecimal.{digits, paired, frameOf, answered, stored}
 use Rattle.hexadecimal.specs.declared.Frame.the-variants.{Bytes, NoRoom}
-
--- a choice between two that are the same
-same : {A : Type 0} (b : Bool) (x : A) → pick b x x ≡ x
-same true x = refl
-same false x = refl
 
 pub frame-long : (l : List ℕ) → 60000 < length l → frameOf l ≡ none
 unfolding frameOf
@@ -24,11 +20,11 @@ frame-long l h = rw (lt-ltb _ _ h)
 
 pub frame-odd : (l : List ℕ) → length l % 2 ≡ 1 → frameOf l ≡ none
 unfolding frameOf
-frame-odd l h = rw (eq-eqb _ _ h) (same (ltb 60000 (length l)) none)
+frame-odd l h = rw (eq-eqb _ _ h) (pick-same (ltb 60000 (length l)) none)
 
 pub frame-other : (l : List ℕ) → digits l ≡ false → frameOf l ≡ none
 unfolding frameOf
-frame-other l h = rw (h, same {A = Option (List ℕ)} (eqb (length l % 2) 1) none) (same (ltb 60000 (length l)) none)
+frame-other l h = rw (h, pick-same {A = Option (List ℕ)} (eqb (length l % 2) 1) none) (pick-same (ltb 60000 (length l)) none)
 
 pub frame-good : (l : List ℕ) → length l ≤ 60000 → (length l % 2 ≡ 1 → ⊥) → digits l ≡ true → frameOf l ≡ some (paired l)
 unfolding frameOf

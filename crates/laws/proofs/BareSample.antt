@@ -1,6 +1,5 @@
 -- The sample record with a bare 00 for three of its values is computed. Rests on specs/BareSample and proofs/Sample.
 use mathlib.Core.Path.{_≡_, refl}
-use mathlib.Core.List.{[]}
 use Prim.Native.Nat.{_≤_}
 use native.Mathlib.Omega.{arith}
 use lib.ListN.{length, replicate}
@@ -32,10 +31,9 @@ use Rattle.front.specs.Front.{frontBytes, fieldsFilled}
 use Rattle.rules.specs.Rules.{keyNumber}
 use Rattle.rules.specs.Values.{givenNumber}
 use Rattle.built.specs.Records.{joined, siteBytes, genotypeBytes, filledFront, recordBytes, Keeps}
-use Rattle.built.specs.Builds.{Tight, Builds}
+use Rattle.built.specs.Builds.{Tight}
 use Rattle.built.proofs.Builds.{keeps-tight}
 use Rattle.bare.specs.Ones.{valueOne, pairOne, repeated, siteOnes, genotypeOnes, withOnes}
-use Rattle.laws.specs.Bare.{Bare}
 use Rattle.laws.specs.BareSample.{BareSample, bareSample, oneSample, bareSite, emptyShown}
 use Rattle.laws.specs.Sample.{facts}
 use Rattle.laws.proofs.Bare.{bare}

@@ -35,10 +35,6 @@ pub and-pick : (a b : Bool) → a && b ≡ pick a b false
 and-pick true b = refl
 and-pick false b = refl
 
-pub pick-same : (b : Bool) → pick b true false ≡ b
-pick-same true = refl
-pick-same false = refl
-
 -- a larger most takes no less
 pub on-more : (top most x : ℕ) (k : Element) → top ≤ most → turned top false k x ≡ On false → turned most false k x ≡ On false
 on-more top most x Missing h e = refl

@@ -1,3 +1,4 @@
+pub mod Pick
 pub mod Places
 pub mod Rules
 pub mod Sign

@@ -7,7 +7,7 @@ use native.Mathlib.Omega.{arith}
 use lib.ListN.{drop, length}
 use Rattle.words.specs.Pick.{pick}
 use Rattle.values.proofs.Room.{room}
-use Rattle.vectors.proofs.Plain.{pick-same}
+use Rattle.words.proofs.Pick.{pick-test}
 use Rattle.calls.specs.Calls.{people}
 use Rattle.calls.specs.Halves.{firstsFew}
 use Rattle.calls.proofs.Padding.{firsts-turn}
@@ -62,7 +62,7 @@ unfolding firstsFew people
 returns c =
     let l = c .before .loop in
     let z : l .left ≡ 0 = omega arith in
-    sym (rw (l .inv .0, z, pick-same _))
+    sym (rw (l .inv .0, z, pick-test _))
 
 pub firsts-few-spec : {M : Type 1} → statement M
 firsts-few-spec =

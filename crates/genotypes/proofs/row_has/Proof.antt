@@ -8,7 +8,7 @@ use lib.ListN.{drop, length, drop-of-length-le}
 use borrow.Author.Tests.{eq-eqb, ne-eqb}
 use Rattle.words.specs.Lists.{among}
 use Rattle.words.specs.Pick.{pick}
-use Rattle.vectors.proofs.Plain.{pick-same}
+use Rattle.words.proofs.Pick.{pick-test}
 use Rattle.genotypes.proofs.Earlier.{sweep-turn}
 use borrow.Author.Needs.{needs}
 use Rattle.genotypes.proofs.row_has.Statement.{statement}
@@ -59,7 +59,7 @@ unfolding among
 returns c =
     let l = c .before .loop in
     let a = c .before .before .args in
-    sym (rw (l .inv .0, drop-of-length-le (a .row .now) {i = l .i} (c .loop-test .left), pick-same _))
+    sym (rw (l .inv .0, drop-of-length-le (a .row .now) {i = l .i} (c .loop-test .left), pick-test _))
 
 pub row-has-spec : {M : Type 1} → statement M
 row-has-spec =

@@ -7,8 +7,9 @@ use lib.ListN.{drop, length}
 use Rattle.words.specs.Pick.{pick}
 use Rattle.values.proofs.Room.{room}
 use Rattle.vectors.specs.Plain.{allPassed}
+use Rattle.words.proofs.Pick.{pick-test}
 use Rattle.vectors.specs.Vectors.{numbers}
-use Rattle.vectors.proofs.Plain.{sweep-turn, pick-same, byte-at}
+use Rattle.vectors.proofs.Plain.{sweep-turn, byte-at}
 use borrow.Author.Needs.{needs}
 use Rattle.vectors.proofs.bytes_pass.Statement.{statement}
 use Rattle.vectors.proofs.bytes_pass.Tie as tie
@@ -66,7 +67,7 @@ unfolding allPassed numbers
 returns c =
     let l = c .before .loop in
     let z : l .left ≡ 0 = omega arith in
-    sym (rw (l .inv .0, z, pick-same _))
+    sym (rw (l .inv .0, z, pick-test _))
 
 pub bytes-pass-spec : {M : Type 1} → statement M
 bytes-pass-spec =
