@@ -1,5 +1,7 @@
 pub mod Found
 pub mod Genotypes
+pub mod Kept
+pub mod Left
 pub mod Records
 pub mod Shows
 pub mod Stand

@@ -1,11 +1,11 @@
 -- A whole record whose bare 00 become 01: as long as it was, accepted with the same site, and it shows the same. Rests on proofs/Steps,
 -- Genotypes and Shows, and on what an accepted record's reading went through.
 use mathlib.Core.Path.{_≡_, refl, sym, _∙_, ap}
-use mathlib.Core.List.{List, [], _++_, append-assoc}
+use mathlib.Core.List.{List, [], _∷_, _++_, append-assoc}
 use Prim.Native.Nat.{ℕ, zero, suc, _+_, _-_, _≤_}
 use native.Mathlib.Omega.{arith}
 use lib.ListN.{length, take, drop, length-append, length-drop, take-append-drop}
-use lib.Seq.{length-take-le, take-at, drop-at}
+use lib.Seq.{length-take-le, take-at, drop-at, take-nil, drop-nil}
 use Rattle.types.specs.declared.Use.{Use}
 use Rattle.types.specs.declared.Use.the-variants.{Id, Allele, Filter, Key, Info, Format}
 use Rattle.values.specs.Values.{integer, present}
@@ -35,7 +35,7 @@ use Rattle.bare.proofs.Genotypes.{Genotyped, genotypes-ones}
 use Rattle.bare.proofs.Shows.{showing-ones, alleles-ones, pairs-ones, fields-ones}
 
 -- what becomes of a block is as long as it was
-abbrev Even : Rest → Type 0
+abbrev pub Even : Rest → Type 0
 Even rest = (at : ℕ) (l : List ℕ) → length (rest at l) ≡ length l
 
 length-parts : (k : ℕ) (l : List ℕ) → length (take k l) + length (drop k l) ≡ length l
@@ -64,15 +64,22 @@ unfolding repeated
 even-repeated step f zero rest e = e
 even-repeated step f (suc n) rest e = f (repeated step n rest) (even-repeated step f n rest e)
 
-even-site : (alleles infos : ℕ) → Even (siteOnes alleles infos)
+pub even-site : (alleles infos : ℕ) → Even (siteOnes alleles infos)
 unfolding siteOnes
 even-site alleles infos =
     even-value 1 Id _ (even-repeated (valueOne 1 Allele) (even-value 1 Allele) alleles _
     (even-value 1 Filter _ (even-repeated (pairOne 1 Info) (even-pair 1 Info) infos asItIs (λ at l. refl))))
 
-even-genotypes : (people formats : ℕ) → Even (genotypeOnes people formats)
+pub even-genotypes : (people formats : ℕ) → Even (genotypeOnes people formats)
 unfolding genotypeOnes
 even-genotypes people formats = even-repeated (pairOne people Format) (even-pair people Format) formats asItIs (λ at l. refl)
+
+-- the parts of a list, put together again
+pub part-rest : (s : List ℕ) (a b : ℕ) → a ≤ b → drop a (take b s) ++ drop b s ≡ drop a s
+part-rest s zero b h = take-append-drop b s
+part-rest [] (suc a) b h = rw (take-nil {A = ℕ} b, drop-nil {A = ℕ} b)
+part-rest (x ∷ s) (suc a) zero h = absurd (omega arith)
+part-rest (x ∷ s) (suc a) (suc b) h = part-rest s a b (omega arith)
 
 -- a record whose front fits its site, cut into its parts
 record Parts (t : Site) (s : List ℕ) : Type 0 where

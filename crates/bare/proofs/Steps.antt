@@ -3,18 +3,17 @@
 use mathlib.Core.Path.{_≡_, refl, sym, _∙_, ap}
 use mathlib.Core.List.{List, [], _++_}
 use mathlib.Core.Bool.{Bool, true, false}
-use Prim.Native.Nat.{ℕ, zero, suc, _+_, _-_, _<_, _≤_}
+use Prim.Native.Nat.{ℕ, zero, suc, _+_, _-_, _≤_}
 use native.Mathlib.Omega.{arith}
 use native.Mathlib.Nat.{sub-self, zero-div}
 use lib.Dec.{eqb}
 use borrow.Author.Tests.{eqb-true}
-use lib.ListN.{length, take, drop}
+use lib.ListN.{take, drop}
 use lib.Seq.{length-take-le, drop-at}
 use Rattle.words.specs.Pick.{pick}
 use Rattle.types.specs.Rows.{widthOf}
 use Rattle.types.specs.declared.Use.{Use}
 use Rattle.types.specs.declared.Use.the-variants.{Id, Allele, Filter, Key, Info}
-use Rattle.values.specs.Answers.{integerInside}
 use Rattle.values.specs.Values.{integer, keyed, present}
 use Rattle.values.specs.declared.Integer.{Integer}
 use Rattle.values.specs.declared.Integer.the-variants.{One, Refused as NoInteger}
@@ -29,13 +28,13 @@ use Rattle.site.specs.Alleles.{allele, alleleValue}
 use Rattle.site.specs.Filters.{filters, filtered, filterValue, filter}
 use Rattle.site.specs.Site.{info, infoValue, site}
 use Rattle.site.specs.declared.Step.{Step}
-use Rattle.site.specs.declared.Step.the-variants.{At}
-use Rattle.fetched.proofs.Agree.{sound-there, allele-value, filter-value, went}
+use Rattle.site.specs.declared.Step.the-variants.{At, Refused as NoStep}
+use Rattle.fetched.proofs.Agree.{allele-value, filter-value, went}
 use Rattle.fetched.proofs.FormatFields.{keyed-integer}
-use Rattle.fetched.proofs.Fronts.{keyed-front}
-use Rattle.fetched.proofs.Inside.{keyed-inside, present-inside, drop-past}
+use Rattle.fetched.proofs.Fronts.{integer-front, keyed-front}
+use Rattle.fetched.proofs.Inside.{integer-inside, present-inside, drop-past}
 use Rattle.bare.specs.Ones.{Rest, oneFor, valueOne, pairOne, repeated, siteOnes}
-use Rattle.bare.proofs.Values.{codeFor, present-zero, present-ones, soundly-ones, sound-ones, part-ones, drop-ones}
+use Rattle.bare.proofs.Values.{codeFor, present-zero, present-ones, soundly-ones, part-ones, drop-ones}
 
 -- a step that comes to the same place in what becomes of the block, and behind it stands what becomes of the rest
 abbrev pub Passes : (ℕ → List ℕ → Step) → (Rest → Rest) → Type 0
@@ -50,28 +49,34 @@ pub valueOne-there : (vectors : ℕ) (role : Use) (rest : Rest) (at : ℕ) (l : 
 unfolding valueOne
 valueOne-there vectors role rest at l t n first stop h = rw h
 
-drop-valueOne : (vectors : ℕ) (role : Use) (rest : Rest) (at : ℕ) (l : List ℕ) (t n first stop : ℕ)
+pub drop-valueOne : (vectors : ℕ) (role : Use) (rest : Rest) (at : ℕ) (l : List ℕ) (t n first stop : ℕ)
     → present vectors role at l ≡ Present t n first stop → drop (stop - at) (valueOne vectors role rest at l) ≡ rest stop (drop (stop - at) l)
 drop-valueOne vectors role rest at l t n first stop h =
     let i = rw h at (present-inside vectors role at l) in
     ap (drop (stop - at)) (valueOne-there vectors role rest at l t n first stop h)
     ∙ drop-ones at stop l (rest stop (drop (stop - at) l)) (omega (arith, i .0, i .1)) (i .2)
 
--- so many steps
-pub times-passes : (step : ℕ → List ℕ → Step) (one : Rest → Rest) → Passes step one → (n : ℕ) → Passes (times step n) (repeated one n)
-unfolding times repeated
-times-passes step one f zero rest at l q h =
+-- no step at all; a step and then another; so many steps
+pub none-passes : Passes (λ at l. At at) (λ rest. rest)
+none-passes rest at l q h =
     let e : at ≡ q = cc in
     (h, rw (← e, sub-self at), omega arith)
-times-passes step one f (suc n) rest at l q h =
-    let w = went at l (step at l) (times step n) h in
+
+pub both-passes : (first second : ℕ → List ℕ → Step) (one two : Rest → Rest) → Passes first one → Passes second two
+    → Passes (λ at l. then at l (first at l) second) (λ rest. one (two rest))
+both-passes first second one two f g rest at l q h =
+    let w = went at l (first at l) second h in
     let p = w .place in
-    let l1 = drop (p - at) l in
-    let new = one (repeated one n rest) at l in
-    let a = f (repeated one n rest) at l p (w .here) in
-    let b = times-passes step one f n rest p l1 q (w .on) in
+    let new = one (two rest) at l in
+    let a = f (two rest) at l p (w .here) in
+    let b = g rest p (drop (p - at) l) q (w .on) in
     let behind = sym (drop-past new at p q (a .2) (b .2)) ∙ ap (drop (q - p)) (a .1) ∙ b .1 ∙ ap (rest q) (drop-past l at p q (a .2) (b .2)) in
     (rw (a .0, a .1) (b .0), behind, omega (arith, a .2, b .2))
+
+pub times-passes : (step : ℕ → List ℕ → Step) (one : Rest → Rest) → Passes step one → (n : ℕ) → Passes (times step n) (repeated one n)
+unfolding times repeated
+times-passes step one f zero = none-passes
+times-passes step one f (suc n) = both-passes step (times step n) one (repeated one n) f (times-passes step one f n)
 
 -- a step, and then what goes on from where it came to
 then-passes : (step : ℕ → List ℕ → Step) (one : Rest → Rest) (next : ℕ → List ℕ → Step) (rest : Rest) → Passes step one
@@ -83,52 +88,47 @@ then-passes step one next rest f on at l e h =
     rw (a .0, a .1) (on (w .place) (drop (w .place - at) l) e (w .on))
 
 -- a value that is judged by its use: where the judgement lets it pass, to where it ends, and lets it pass with 01 for its 00
-value-passes : (role : Use) (judge : ℕ → List ℕ → Value → Step) → ((at : ℕ) (l : List ℕ) (v : Value) (q : ℕ) → judge at l v ≡ At q → valueStep v ≡ At q)
-    → ((at : ℕ) (l m : List ℕ) (t n first stop : ℕ) → present 1 role at l ≡ Present t n first stop → judge at l (Present t n first stop) ≡ At stop
+pub value-passes : (vectors : ℕ) (role : Use) (judge : ℕ → List ℕ → Value → Step)
+    → ((at : ℕ) (l : List ℕ) (v : Value) (q : ℕ) → judge at l v ≡ At q → valueStep v ≡ At q)
+    → ((at : ℕ) (l m : List ℕ) (t n first stop : ℕ) → present vectors role at l ≡ Present t n first stop → judge at l (Present t n first stop) ≡ At stop
     → judge at (oneFor (take (stop - at) l) ++ m) (Present (codeFor t) n first stop) ≡ At stop)
-    → Passes (λ at l. judge at l (present 1 role at l)) (valueOne 1 role)
-value-passes role judge passed ones rest at l q h = by-value (present 1 role at l) refl h
+    → Passes (λ at l. judge at l (present vectors role at l)) (valueOne vectors role)
+value-passes vectors role judge passed ones rest at l q h = by-value (present vectors role at l) refl h
   where
     new : List ℕ
-    new = valueOne 1 role rest at l
+    new = valueOne vectors role rest at l
 
-    by-value : (v : Value) → present 1 role at l ≡ v → judge at l v ≡ At q
-        → (judge at new (present 1 role at new) ≡ At q) × (drop (q - at) new ≡ rest q (drop (q - at) l)) × (at ≤ q)
+    by-value : (v : Value) → present vectors role at l ≡ v → judge at l v ≡ At q
+        → (judge at new (present vectors role at new) ≡ At q) × (drop (q - at) new ≡ rest q (drop (q - at) l)) × (at ≤ q)
     by-value (NoValue r) p e = let none = passed at l (NoValue r) q e in let z : _≡_ {A = ℕ} 0 1 = cc in absurd (omega arith)
     by-value (Present t n first stop) p e =
-        let i = rw p at (present-inside 1 role at l) in
+        let i = rw p at (present-inside vectors role at l) in
         let ends = passed at l (Present t n first stop) q e in
         let k : stop ≡ q = cc in
         let m = rest stop (drop (stop - at) l) in
         let judged : judge at l (Present t n first stop) ≡ At stop = e ∙ ap At (sym k) in (
-          rw (valueOne-there 1 role rest at l t n first stop p, present-ones 1 role at l m t n first stop p)
+          rw (valueOne-there vectors role rest at l t n first stop p, present-ones vectors role at l m t n first stop p)
               (ones at l m t n first stop p judged ∙ ap At k),
-          rw k at (drop-valueOne 1 role rest at l t n first stop p),
+          rw k at (drop-valueOne vectors role rest at l t n first stop p),
           omega (arith, i .0, i .1),
         )
 
--- ID
-soundly-same : (at : ℕ) (l : List ℕ) (v : Value) (q : ℕ) → valueStep (soundly 0 Id at l v) ≡ At q → soundly 0 Id at l v ≡ v
-soundly-same at l (NoValue r) q h = refl
-soundly-same at l (Present t n first stop) q h = by-elements (judged (mostOf Id 0 t) t n (take (stop - first) (drop (first - at) l))) h
+-- a sound value: ID, an INFO value
+soundly-same : (role : Use) (at : ℕ) (l : List ℕ) (v : Value) (q : ℕ) → valueStep (soundly 0 role at l v) ≡ At q → soundly 0 role at l v ≡ v
+soundly-same role at l (NoValue r) q h = refl
+soundly-same role at l (Present t n first stop) q h = by-elements (judged (mostOf role 0 t) t n (take (stop - first) (drop (first - at) l))) h
   where
     by-elements : (j : Judged) → valueStep (judgedFrom first (Present t n first stop) j) ≡ At q
         → judgedFrom first (Present t n first stop) j ≡ Present t n first stop
     by-elements Sound e = refl
     by-elements (Unsound r) e = cc
 
-id-passed : (at : ℕ) (l : List ℕ) (v : Value) (q : ℕ) → valueStep (soundly 0 Id at l v) ≡ At q → valueStep v ≡ At q
-id-passed at l v q h = rw (soundly-same at l v q h) at h
-
-id-ones : (at : ℕ) (l m : List ℕ) (t n first stop : ℕ) → present 1 Id at l ≡ Present t n first stop
-    → valueStep (soundly 0 Id at l (Present t n first stop)) ≡ At stop
-    → valueStep (soundly 0 Id at (oneFor (take (stop - at) l) ++ m) (Present (codeFor t) n first stop)) ≡ At stop
-id-ones at l m t n first stop p h =
-    ap valueStep (soundly-ones 1 0 Id at l m t n first stop p (soundly-same at l (Present t n first stop) stop h))
-
-id-passes : Passes (λ at l. valueStep (sound 1 0 Id at l)) (valueOne 1 Id)
+sound-passes : (role : Use) → Passes (λ at l. valueStep (sound 1 0 role at l)) (valueOne 1 role)
 unfolding sound
-id-passes = value-passes Id (λ at l v. valueStep (soundly 0 Id at l v)) id-passed id-ones
+sound-passes role =
+    value-passes 1 role (λ at l v. valueStep (soundly 0 role at l v)) (λ at l v q h. rw (soundly-same role at l v q h) at h)
+    (λ at l m t n first stop p h.
+    ap valueStep (soundly-ones 1 0 role at l m t n first stop p (soundly-same role at l (Present t n first stop) stop h)))
 
 -- an allele
 allele-ones : (at : ℕ) (l m : List ℕ) (t n first stop : ℕ) → present 1 Allele at l ≡ Present t n first stop
@@ -139,7 +139,7 @@ allele-ones at l m t n first stop p h =
 
 allele-passes : Passes allele (valueOne 1 Allele)
 unfolding allele
-allele-passes = value-passes Allele alleleValue (λ at l v q. allele-value at l v {q = q}) allele-ones
+allele-passes = value-passes 1 Allele alleleValue (λ at l v q. allele-value at l v {q = q}) allele-ones
 
 -- FILTER
 filtered-none : (strings t : ℕ) → filtered strings t [] ≡ Sound
@@ -170,7 +170,7 @@ filter-ones strings at l m t n first stop p h =
 
 filter-passes : (strings : ℕ) → Passes (filter strings) (valueOne 1 Filter)
 unfolding filter
-filter-passes strings = value-passes Filter (filterValue strings) (λ at l v q. filter-value strings at l v {q = q}) (filter-ones strings)
+filter-passes strings = value-passes 1 Filter (filterValue strings) (λ at l v q. filter-value strings at l v {q = q}) (filter-ones strings)
 
 -- a key that is there, as it is, before what becomes of its value
 pub pairOne-there : (vectors : ℕ) (role : Use) (rest : Rest) (at : ℕ) (l : List ℕ) (key next : ℕ) → integer Key at l ≡ One key next
@@ -178,54 +178,67 @@ pub pairOne-there : (vectors : ℕ) (role : Use) (rest : Rest) (at : ℕ) (l : L
 unfolding pairOne
 pairOne-there vectors role rest at l key next h = rw h
 
--- an INFO pair
-info-passes : (strings : ℕ) → Passes (info strings) (pairOne 1 Info)
-unfolding info
-info-passes strings rest at l q h = by-key (keyed strings at l) refl (keyed-inside strings at l) h
+-- a way to read keys: what it finds is an integer, and stays so whatever follows
+pub record Keys (key : ℕ → List ℕ → Integer) : Type 0 where
+  pub front : (at : ℕ) (l m : List ℕ) (x next : ℕ) → key at l ≡ One x next → key at (take (next - at) l ++ m) ≡ One x (at + (next - at))
+  pub number : (at : ℕ) (l : List ℕ) (x next : ℕ) → key at l ≡ One x next → integer Key at l ≡ One x next
+
+pub keys-integer : Keys (integer Key)
+keys-integer = record { front = λ at l m x next h. integer-front Key at at l m x next h; number = λ at l x next h. h }
+
+keys-keyed : (strings : ℕ) → Keys (keyed strings)
+keys-keyed strings = record { front = λ at l m x next h. keyed-front strings at at l m x next h; number = keyed-integer strings }
+
+-- past a key, and on
+abbrev pub onKey : (ℕ → ℕ → List ℕ → Step) → ℕ → List ℕ → Integer → Step
+onKey next at l (NoInteger r) = NoStep r
+onKey next at l (One x q) = next x q (drop (q - at) l)
+
+-- a key and its value
+pub pair-passes : (vectors : ℕ) (role : Use) (key : ℕ → List ℕ → Integer) (value : ℕ → ℕ → List ℕ → Step) → Keys key
+    → ((x : ℕ) → Passes (value x) (valueOne vectors role)) → Passes (λ at l. onKey value at l (key at l)) (pairOne vectors role)
+pair-passes vectors role key value keys passes rest at l q h = by-key (key at l) refl h
   where
     new : List ℕ
-    new = pairOne 1 Info rest at l
+    new = pairOne vectors role rest at l
 
-    by-value : (key next : ℕ) (v : Value) → keyed strings at l ≡ One key next → at < next → next ≤ at + length l
-        → sound 1 0 Info next (drop (next - at) l) ≡ v → valueStep v ≡ At q
-        → (infoValue at new (keyed strings at new) ≡ At q) × (drop (q - at) new ≡ rest q (drop (q - at) l)) × (at ≤ q)
-    by-value key next (NoValue r) p a b s e = let z : _≡_ {A = ℕ} 0 1 = cc in absurd (omega arith)
-    by-value key next (Present t n first stop) p a b s e =
+    by-key : (i : Integer) → key at l ≡ i → onKey value at l i ≡ At q
+        → (onKey value at new (key at new) ≡ At q) × (drop (q - at) new ≡ rest q (drop (q - at) l)) × (at ≤ q)
+    by-key (NoInteger r) p e = let z : _≡_ {A = ℕ} 0 1 = cc in absurd (omega arith)
+    by-key (One x next) p e =
         let l1 = drop (next - at) l in
-        let there = sound-there 1 0 Info next l1 t n first stop s in
-        let i = rw there at (present-inside 1 Info next l1) in
-        let k : stop ≡ q = cc in
-        let m = valueOne 1 Info rest next l1 in
-        let split = pairOne-there 1 Info rest at l key next (keyed-integer strings at l key next p) in
-        let here : at + (next - at) ≡ next = omega arith in
-        let value : drop (next - at) (take (next - at) l ++ m) ≡ m = drop-at (take (next - at) l) m (next - at) (length-take-le (next - at) l (omega arith)) in
-        let behind : drop (stop - at) (take (next - at) l ++ m) ≡ rest stop (drop (stop - at) l) =
-        sym (drop-past (take (next - at) l ++ m) at next stop (omega arith) (omega (arith, i .0, i .1))) ∙ ap (drop (stop - next)) value
-        ∙ drop-valueOne 1 Info rest next l1 t n first stop there ∙ ap (rest stop) (drop-past l at next stop (omega arith) (omega (arith, i .0, i .1))) in
-        let front = keyed-front strings at at l m key next p in (
-          rw (
-            split,
-            front,
-            here,
-            value,
-            valueOne-there 1 Info rest next l1 t n first stop there,
-            sound-ones 1 0 Info next l1 (rest stop (drop (stop - next) l1)) t n first stop s,
-          ) (ap At k),
-          rw split (rw k at behind),
-          omega (arith, i .0, i .1),
-        )
+        let m = valueOne vectors role rest next l1 in
+        let there = keys .number at l x next p in
+        let i = rw there at (integer-inside Key at l) in
+        let a = passes x rest next l1 q e in
+        let split = pairOne-there vectors role rest at l x next there in
+        let here : at + (next - at) ≡ next = omega (arith, i .0) in
+        let behind : drop (next - at) (take (next - at) l ++ m) ≡ m =
+        drop-at (take (next - at) l) m (next - at) (length-take-le (next - at) l (omega (arith, i .0, i .1))) in
+        let later : at ≤ next = omega (arith, i .0) in
+        let rest-of : drop (q - at) (take (next - at) l ++ m) ≡ rest q (drop (q - at) l) =
+        sym (drop-past (take (next - at) l ++ m) at next q later (a .2)) ∙ ap (drop (q - next)) behind ∙ a .1
+        ∙ ap (rest q) (drop-past l at next q later (a .2)) in
+        (rw (split, keys .front at l m x next p, here, behind) (a .0), rw split rest-of, omega (arith, i .0, a .2))
 
-    by-key : (i : Integer) → keyed strings at l ≡ i → integerInside at (at + length l) i → infoValue at l i ≡ At q
-        → (infoValue at new (keyed strings at new) ≡ At q) × (drop (q - at) new ≡ rest q (drop (q - at) l)) × (at ≤ q)
-    by-key (NoInteger r) p k e = let z : _≡_ {A = ℕ} 0 1 = cc in absurd (omega arith)
-    by-key (One key next) p k e = by-value key next (sound 1 0 Info next (drop (next - at) l)) p (k .0) (k .1) refl e
+-- an INFO pair
+info-key : (at : ℕ) (l : List ℕ) (i : Integer) → onKey (λ x at l. valueStep (sound 1 0 Info at l)) at l i ≡ infoValue at l i
+info-key at l (NoInteger r) = refl
+info-key at l (One x next) = refl
+
+info-passes : (strings : ℕ) → Passes (info strings) (pairOne 1 Info)
+unfolding info
+info-passes strings rest at l q h =
+    let a = pair-passes 1 Info (keyed strings) (λ x at l. valueStep (sound 1 0 Info at l)) (keys-keyed strings) (λ x. sound-passes Info) rest at l q
+    (info-key at l (keyed strings at l) ∙ h) in
+    (sym (info-key at _ (keyed strings at _)) ∙ a .0, a .1, a .2)
 
 -- the law: a site block that is read to its last byte is so with 01 in place of each bare 00
 pub site-ones : (strings alleles infos at : ℕ) (l : List ℕ) (e : ℕ) → site strings alleles infos at l ≡ At e
     → site strings alleles infos at (siteOnes alleles infos at l) ≡ At e
 unfolding site siteOnes
 site-ones strings alleles infos at l e h =
-    then-passes (λ at l. valueStep (sound 1 0 Id at l)) (valueOne 1 Id) _ _ id-passes
+    then-passes (λ at l. valueStep (sound 1 0 Id at l)) (valueOne 1 Id) _ _ (sound-passes Id)
     (λ p fromAlleles. then-passes (times allele alleles) (repeated (valueOne 1 Allele) alleles) _ _ (times-passes allele (valueOne 1 Allele) allele-passes alleles)
     (λ q fromFilter. then-passes (filter strings) (valueOne 1 Filter) _ _ (filter-passes strings)
     (λ r fromInfo. then-passes (times (info strings) infos) (repeated (pairOne 1 Info) infos) _ _

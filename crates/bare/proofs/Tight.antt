@@ -6,7 +6,7 @@ use Prim.Native.Nat.{ℕ, zero, suc, _+_, _-_, _*_, _%_, _<_, _≤_}
 use native.Mathlib.Omega.{arith}
 use lib.Dec.{ltb}
 use lib.ListN.{length, take, drop, length-append, take-append-drop}
-use lib.Seq.{take-at, take-nil, drop-nil}
+use lib.Seq.{take-at}
 use Rattle.words.specs.Pick.{pick}
 use Rattle.types.specs.Rows.{rowOf, widthOf, allowed}
 use Rattle.types.specs.declared.Use.{Use}
@@ -35,6 +35,7 @@ use Rattle.built.proofs.Builds.{wrote-record}
 use Rattle.built.proofs.Kept.{turns-keep}
 use Rattle.bare.specs.Ones.{Rest, asItIs, oneFor, valueOne, pairOne, repeated, siteOnes, genotypeOnes, withOnes}
 use Rattle.bare.proofs.Values.{oneFor-same}
+use Rattle.bare.proofs.Records.{part-rest}
 
 -- a type with a width is not type 0
 wide-type : (t : ℕ) → 0 < widthOf t → 0 < t
@@ -183,13 +184,6 @@ genotypes-given f r at k h =
     rw (append-nil d) at
     (repeated-joined (pairOne (f .people) Format) fieldBytes (FieldFits (f .people)) (field-given (f .people)) asItIs at (r .formats) []
     (all-fit f (length (r .alleles)) [] (r .formats) (k .people) (k .formats) h) h)
-
--- the parts of a list, put together again
-part-rest : (s : List ℕ) (a b : ℕ) → a ≤ b → drop a (take b s) ++ drop b s ≡ drop a s
-part-rest s zero b h = take-append-drop b s
-part-rest [] (suc a) b h = rw (take-nil {A = ℕ} b, drop-nil {A = ℕ} b)
-part-rest (x ∷ s) (suc a) zero h = absurd (omega arith)
-part-rest (x ∷ s) (suc a) (suc b) h = part-rest s a b (omega arith)
 
 withOnes-same : (t : Site) (s : List ℕ) → idAt ≤ t .border → t .border ≤ t .length
     → siteOnes (t .alleles) (t .infos) idAt (drop idAt (take (t .border) s)) ≡ drop idAt (take (t .border) s)

@@ -2,6 +2,7 @@
 -- Rests on values, and on the layout.
 use Prim.Native.Nat.{ℕ, zero, suc, _-_}
 use mathlib.Core.List.{List, [], _∷_, _++_}
+use mathlib.Core.Bool.{Bool, true}
 use lib.Dec.{eqb}
 use lib.ListN.{take, drop}
 use Rattle.words.specs.Pick.{pick}
@@ -27,6 +28,10 @@ asItIs at l = l
 abbrev pub oneFor : List ℕ → List ℕ
 oneFor [] = []
 oneFor (d ∷ rest) = pick (eqb d 0) 0x01 d ∷ rest
+
+-- a byte as it was, or 01 for 00
+abbrev pub sameOrOne : ℕ → ℕ → Bool
+sameOrOne x y = pick (eqb x 0) (pick (eqb y 0) true (eqb y 1)) (eqb y x)
 
 -- a value, for so many vectors of a use, and then what follows it; where there is none, the block stays
 abbrev pub pastValue : Rest → ℕ → List ℕ → Value → List ℕ

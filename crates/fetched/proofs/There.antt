@@ -85,6 +85,7 @@ pub record Stands (f : Facts) (t : Site) (kind : Kind) (m at : ℕ) (l : List �
   pub place : ℕ
   pub stop : ℕ
   pub later : at ≤ place
+  pub reached : toField kind (f .people) (t .alleles) m at l ≡ At place
   pub field : fieldIn kind (f .people) (t .alleles) m at l ≡ fieldAt kind (f .people) place (drop (place - at) l)
   pub judged : judging f t kind place (drop (place - at) l) ≡ At stop
 
@@ -103,6 +104,7 @@ from-first f t kind m n at l p i k h q =
       place = r .place;
       stop = r .stop;
       later = omega arith;
+      reached = rw i w;
       field = rw (i, w);
       judged = rw (drop-past l at p (r .place) k (r .later)) at (r .judged);
     }

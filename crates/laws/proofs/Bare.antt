@@ -1,7 +1,10 @@
 -- What is claimed of a bare 00, proved: each law cites the file of `bare` that did the work. Rests on specs/Bare.
-use mathlib.Core.Path.{_≡_, refl}
+use mathlib.Core.Path.{_≡_, refl, _∙_, ap}
 use mathlib.Core.List.{List}
-use Prim.Native.Nat.{ℕ, _≤_}
+use mathlib.Core.Bool.{false}
+use Prim.Native.Nat.{ℕ, zero, suc, _<_, _≤_}
+use native.Mathlib.Omega.{arith}
+use lib.Dec.{eqb}
 use lib.ListN.{length}
 use borrow.Author.Tests.{le-ltb}
 use Rattle.types.specs.Rows.{rowOf}
@@ -13,13 +16,19 @@ use Rattle.record.specs.Reading.{reading}
 use Rattle.record.specs.Shown.{shownOf}
 use Rattle.record.specs.declared.Reading.the-variants.{Accepted}
 use Rattle.record.proofs.Accepted.{accepted-fits}
+use Rattle.fetch.specs.Fetch.{found}
+use Rattle.fetch.specs.declared.Kind.{Kind}
+use Rattle.fetch.specs.declared.Found.{Found}
+use Rattle.fetch.specs.declared.Found.the-variants.{Field, Refused}
 use Rattle.tally.specs.Tally.{nobody, callsOf, tallied}
 use Rattle.tally.specs.declared.Counting.the-variants.{Counted}
 use Rattle.built.specs.Builds.{Tight, Builds}
-use Rattle.built.proofs.Builds.{tight-again}
+use Rattle.built.proofs.Builds.{tight-reads, tight-again}
 use Rattle.bare.specs.Ones.{withOnes}
 use Rattle.bare.proofs.Stand.{described-bare, refused-bare, refused-length, refused-integer}
 use Rattle.bare.proofs.Found.{found-empty, pair-empty, gt-empty}
+use Rattle.bare.proofs.Kept.{withOnes-kept}
+use Rattle.bare.proofs.Left.{typeOther, found-left}
 use Rattle.bare.proofs.Records.{lies, reads-ones, shownOf-ones}
 use Rattle.bare.proofs.Tight.{tight-ones}
 use Rattle.laws.specs.Bare.{Bare}
@@ -35,6 +44,29 @@ accepts f s t g h = let r = reads-ones f s t g h in record { gt = r .gt; read = 
 
 as-long : (f : Facts) (s : List ℕ) (t : Site) (g : Gt) → reading f s ≡ Accepted t g → length (withOnes t s) ≡ length s
 as-long f s t g h = lies f s t (accepted-fits f s t g h) .length-same
+
+-- a type that is not 0
+other-type : (r : Found) (key code n place stop : ℕ) → typeOther r → r ≡ Field key code n place stop → 0 < code
+other-type (Refused x) key code n place stop h e = let z : _≡_ {A = ℕ} 0 1 = cc in absurd (omega arith)
+other-type (Field k t m p q) key code n place stop h e =
+    let same : t ≡ code = cc in
+    above code (rw same at h)
+  where
+    above : (c : ℕ) → eqb c 0 ≡ false → 0 < c
+    above zero h = let z : _≡_ {A = ℕ} 0 1 = cc in absurd (omega arith)
+    above (suc c) h = omega arith
+
+none-left : (f : Facts) (s : List ℕ) (t : Site) (g : Gt) → reading f s ≡ Accepted t g
+    → (kind : Kind) (number key code n place stop : ℕ) → found f kind number (withOnes t s) ≡ Field key code n place stop → 0 < code
+none-left f s t g h kind number key code n place stop e =
+    other-type (found f kind number (withOnes t s)) key code n place stop (found-left f kind number s t g h) e
+
+tight-none : (f : Facts) (s : List ℕ) → Tight f s
+    → (kind : Kind) (number key code n place stop : ℕ) → found f kind number s ≡ Field key code n place stop → 0 < code
+tight-none f s x kind number key code n place stop e =
+    let r = tight-reads f s x in
+    none-left f s (r .site) (r .gt) (r .read) kind number key code n place stop
+    (ap (found f kind number) (tight-ones f s (r .site) (r .gt) x (r .read)) ∙ e)
 
 again : (f : Facts) (s buf : List ℕ) (t : Site) (g : Gt) → reading f s ≡ Accepted t g → Tight f (withOnes t s) → length s ≤ length buf
     → Builds f (shownOf t s) buf (withOnes t s)
@@ -58,9 +90,12 @@ bare =
       fetches = found-empty;
       walks = pair-empty;
       without = nobody-called;
+      bytes = λ f s t g h. withOnes-kept f s t (accepted-fits f s t g h);
+      none-left = none-left;
       accepted = accepts;
       as-long = as-long;
       shows = shownOf-ones;
       again = again;
+      tight-none = tight-none;
       tight = tight-ones;
     }

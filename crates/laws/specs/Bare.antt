@@ -4,7 +4,8 @@
 use Prim.Native.Nat.{ℕ, _+_, _*_, _<_, _≤_}
 use mathlib.Core.Path.{_≡_}
 use mathlib.Core.List.{List, [], _∷_}
-use lib.ListN.{length}
+use mathlib.Core.Bool.{true}
+use lib.ListN.{length, getD}
 use Rattle.types.specs.declared.Use.{Use}
 use Rattle.types.specs.declared.Use.the-variants.{Id, Allele, Filter, Key, Length, Info, Format, Gt as GtUse}
 use Rattle.values.specs.Answers.{noInteger, noDescriptor, typed}
@@ -24,7 +25,7 @@ use Rattle.tally.specs.Tally.{nobody, tallied}
 use Rattle.tally.specs.declared.Counting.the-variants.{Counted}
 use Rattle.built.specs.Builds.{Tight, Builds}
 use Rattle.bare.specs.Empty.{Empty}
-use Rattle.bare.specs.Ones.{withOnes}
+use Rattle.bare.specs.Ones.{sameOrOne, withOnes}
 use Rattle.laws.specs.Choosing.{Accepts}
 
 pub record Bare : Type 0 where
@@ -48,6 +49,11 @@ pub record Bare : Type 0 where
   -- with a GT of type 0, as with none, everybody is without a genotype
   pub without : (f : Facts) (s : List ℕ) (t : Site) (g : Gt) → reading f s ≡ Accepted t g → g .code ≡ 0 → t .alleles ≤ 64
       → tallied f s ≡ record { answer = Counted t; calls = nobody (t .people) }
+  -- `withOnes` moves no other byte, and leaves no bare 00: each byte is the one that stood there, or 01 for 00, and nothing is fetched with type 0
+  pub bytes : (f : Facts) (s : List ℕ) (t : Site) (g : Gt) → reading f s ≡ Accepted t g
+      → (i : ℕ) → sameOrOne (getD s i 0) (getD (withOnes t s) i 0) ≡ true
+  pub none-left : (f : Facts) (s : List ℕ) (t : Site) (g : Gt) → reading f s ≡ Accepted t g
+      → (kind : Kind) (number key code n place stop : ℕ) → found f kind number (withOnes t s) ≡ Field key code n place stop → 0 < code
   -- with 01 in place of each bare 00 a record is accepted with the same site, is as long, and shows the same
   pub accepted : (f : Facts) (s : List ℕ) (t : Site) (g : Gt) → reading f s ≡ Accepted t g → Accepts f (withOnes t s) t
   pub as-long : (f : Facts) (s : List ℕ) (t : Site) (g : Gt) → reading f s ≡ Accepted t g → length (withOnes t s) ≡ length s
@@ -55,5 +61,7 @@ pub record Bare : Type 0 where
   -- so a record that is tight but for its bare 00, built again from what reading shows of it, has 01 in place of each
   pub again : (f : Facts) (s buf : List ℕ) (t : Site) (g : Gt) → reading f s ≡ Accepted t g → Tight f (withOnes t s) → length s ≤ length buf
       → Builds f (shownOf t s) buf (withOnes t s)
-  -- and a tight record has no bare 00
+  -- and a tight record has no bare 00: nothing in it is fetched with type 0, and `withOnes` is the record itself
+  pub tight-none : (f : Facts) (s : List ℕ) → Tight f s
+      → (kind : Kind) (number key code n place stop : ℕ) → found f kind number s ≡ Field key code n place stop → 0 < code
   pub tight : (f : Facts) (s : List ℕ) (t : Site) (g : Gt) → Tight f s → reading f s ≡ Accepted t g → withOnes t s ≡ s
