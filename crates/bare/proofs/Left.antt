@@ -182,7 +182,7 @@ from Format t people m e h =
       split = ap (λ (n : ℕ). genotypeOnes n (t .formats)) e ∙ from-one (oneOf Format people) (firstOf Format (t .alleles)) m (t .formats) _ h;
     }
 
--- the law: no field of what becomes of an accepted record has type 0
+-- what becomes of a kind's block stands where the block did
 block-ones : (f : Facts) (kind : Kind) (s : List ℕ) (t : Site) → Fits f s t
     → blockOf kind t (withOnes t s) ≡ blockOnes kind t (blockFrom kind t) (blockOf kind t s)
 block-ones f Id s t x = lies f s t x .site
@@ -191,6 +191,7 @@ block-ones f Filter s t x = lies f s t x .site
 block-ones f Info s t x = lies f s t x .site
 block-ones f Format s t x = lies f s t x .genotypes
 
+-- a field is found there, of the type that it became
 field-in : (kind : Kind) (people alleles m at : ℕ) (l : List ℕ) (rest : Rest) (q : ℕ) → toField kind people alleles m at l ≡ At q
     → typeOther (fieldIn kind people alleles m at (firstOf kind alleles (repeated (oneOf kind people) m (oneOf kind people rest)) at l))
 unfolding fieldIn
@@ -204,6 +205,7 @@ none-found : (f : Facts) (kind : Kind) (number : ℕ) (s : List ℕ) (t : Site) 
 unfolding found
 none-found f kind number s t g h e = rw (h, e) tt
 
+-- the law: no field of what becomes of an accepted record has type 0
 pub found-left : (f : Facts) (kind : Kind) (number : ℕ) (s : List ℕ) (t : Site) (g : Gt) → reading f s ≡ Accepted t g
     → typeOther (found f kind number (withOnes t s))
 found-left f kind number s t g h = by-count (leb (countOf kind t) number) refl
