@@ -12,7 +12,7 @@ use values::Integer;
 use values::Refusal;
 use values::Value;
 
-// Where GT stands: its type, its length for each person and the place of its first element. Type 0 says that there is no GT.
+// Where GT stands: its type, its length for each person and the place of its first element; all 0 where there is no GT. A bare 00 has its place.
 pub struct Gt {
     pub code: u8,
     pub len: u32,

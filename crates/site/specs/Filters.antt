@@ -1,4 +1,4 @@
--- FILTER: integers, each an offset below the dictionary's size, none twice; marks are no shownNumbers. Rests on values.
+-- FILTER: integers, each an offset below the dictionary's size, none twice; marks are no offsets, and a bare 00 has none. Rests on values.
 use Prim.Native.Nat.{ℕ, _+_, _-_, _/_}
 use mathlib.Core.List.{List, [], _∷_}
 use lib.ListN.{length, take, drop}
