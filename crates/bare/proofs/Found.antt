@@ -8,13 +8,12 @@ use native.Mathlib.Omega.{arith}
 use native.Mathlib.Nat.{sub-self}
 use lib.Dec.{leb, ltb, eqb}
 use lib.ListN.{length, take, drop}
-use borrow.Author.Tests.{leb-false}
+use borrow.Author.Tests.{leb-true, leb-false}
 use Rattle.words.specs.Pick.{pick}
 use Rattle.words.specs.Words.{number}
 use Rattle.words.proofs.Places.{drop-on}
 use Rattle.types.specs.declared.Use.{Use}
 use Rattle.types.specs.declared.Use.the-variants.{Id as IdUse, Allele as AlleleUse, Filter as FilterUse, Info as InfoUse, Format as FormatUse}
-use Rattle.values.specs.Answers.{refusal}
 use Rattle.values.specs.Values.{present}
 use Rattle.values.specs.declared.Value.{Value}
 use Rattle.values.specs.declared.Value.the-variants.{Present, Refused as NoValue}
@@ -27,7 +26,9 @@ use Rattle.record.specs.Reading.{genotypesOf, reading}
 use Rattle.record.specs.declared.Reading.{Reading}
 use Rattle.record.specs.declared.Reading.the-variants.{Accepted, Refused as Unread}
 use Rattle.record.proofs.Accepted.{accepted}
-use Rattle.fetch.specs.Fetch.{valueField, alone, paired, fieldAt, fieldOf, countOf, foundIn, found, fetched}
+use Rattle.fetch.specs.Fields.{valueField, alone, paired, fieldAt}
+use Rattle.fetch.specs.Passing.{countOf, blockEnd}
+use Rattle.fetch.specs.Fetch.{foundIn, found, fetched}
 use Rattle.fetch.specs.declared.Kind.{Kind}
 use Rattle.fetch.specs.declared.Kind.the-variants.{Id, Allele, Filter, Info, Format}
 use Rattle.fetch.specs.declared.Found.{Found}
@@ -35,12 +36,12 @@ use Rattle.fetch.specs.declared.Found.the-variants.{Field, Refused}
 use Rattle.fetched.proofs.Bytes.{fetches}
 use Rattle.fetched.proofs.FormatFields.{format-there, formats-field}
 use Rattle.fetched.proofs.Present.{paired-keyed}
-use Rattle.fetched.proofs.There.{blockEnd}
+use Rattle.fetched.proofs.There.{found-none}
 use Rattle.walker.specs.Walk.{pairIn, pairAt, asPair}
 use Rattle.walker.specs.declared.Pair.the-variants.{Found as Pass, End}
 use Rattle.walker.proofs.Walks.{pair-field}
 use Rattle.bare.specs.Empty.{Empty}
-use Rattle.bare.proofs.Values.{present-zero}
+use Rattle.contents.proofs.Bare.{present-zero}
 
 -- the byte at the front of a part of a list
 front-byte : (q end : ℕ) (s : List ℕ) (d : ℕ) (rest : List ℕ) → drop q (take end s) ≡ d ∷ rest → take 1 (drop q s) ≡ d ∷ []
@@ -94,16 +95,18 @@ found-empty f kind number s key n place stop h =
     let none : stop - place ≡ 0 = rw (e .ends) (sub-self place) in
     (e, rw (h, none))
   where
-    by-test : (t : Site) (g : Gt) (b : Bool) → reading f s ≡ Accepted t g → leb (countOf kind t) number ≡ b
-        → pick b (Refused (refusal 16 0)) (fieldOf f kind number t s) ≡ Field key 0 n place stop → Empty s n place stop
-    by-test t g true p q e = let z : _≡_ {A = ℕ} 0 1 = cc in absurd (omega arith)
-    by-test t g false p q e =
+    by-count : (t : Site) (g : Gt) (b : Bool) → reading f s ≡ Accepted t g → leb (countOf kind t) number ≡ b → Empty s n place stop
+    by-count t g true p q =
+        let none = sym (found-none f kind number s t g p (leb-true (countOf kind t) number q)) ∙ h in
+        let z : _≡_ {A = ℕ} 0 1 = cc in
+        absurd (omega arith)
+    by-count t g false p q =
         let r = fetches f kind number s t g p (leb-false (countOf kind t) number q) in
         field-empty kind (f .people) (r .place) (blockEnd kind t) s key n place stop (sym (r .field) ∙ h)
 
-    by-reading : (r : Reading) → reading f s ≡ r → foundIn f kind number s r ≡ Field key 0 n place stop → Empty s n place stop
+    by-reading : (r : Reading) → reading f s ≡ r → foundIn kind number s r ≡ Field key 0 n place stop → Empty s n place stop
     by-reading (Unread r) p e = let z : _≡_ {A = ℕ} 0 1 = cc in absurd (omega arith)
-    by-reading (Accepted t g) p e = by-test t g (leb (countOf kind t) number) p refl e
+    by-reading (Accepted t g) p e = by-count t g (leb (countOf kind t) number) p refl
 
 -- the law: what the walker yields with type 0
 pair-found : (r : Found) (key n place next : ℕ) → asPair r ≡ Pass key 0 n place next → r ≡ Field key 0 n place next

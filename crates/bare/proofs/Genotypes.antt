@@ -4,7 +4,7 @@ use mathlib.Core.Path.{_≡_, refl, _∙_}
 use mathlib.Core.List.{List, [], _∷_, _++_}
 use Prim.Native.Nat.{ℕ, zero, suc, _+_, _-_}
 use native.Mathlib.Omega.{arith}
-use lib.ListN.{take, drop, length-drop}
+use lib.ListN.{take, drop, length-drop, replicate}
 use lib.Seq.{length-take-le, drop-at}
 use Rattle.types.specs.declared.Use.the-variants.{Format}
 use Rattle.vectors.specs.Sound.{sound}
@@ -12,24 +12,25 @@ use Rattle.genotypes.specs.Formats.{formats, roleOf, gtNow, gtAt}
 use Rattle.genotypes.specs.declared.Gt.{Gt}
 use Rattle.genotypes.specs.declared.Genotypes.the-variants.{Sound}
 use Rattle.fetched.proofs.FormatFields.{JudgedField, format-there, formats-field, keyed-integer}
+use Rattle.fetch.specs.declared.Kind.the-variants.{Format as FormatKind}
 use Rattle.fetched.proofs.Fronts.{keyed-front}
-use Rattle.fetched.proofs.Inside.{drop-past}
-use Rattle.bare.specs.Ones.{asItIs, oneFor, pairOne, repeated}
+use Rattle.fetch.proofs.Inside.{drop-past}
+use Rattle.bare.specs.Ones.{oneFor, pairOne, onesOf}
 use Rattle.bare.proofs.Values.{codeFor, sound-ones, drop-ones}
 use Rattle.bare.proofs.Steps.{valueOne-there, pairOne-there}
 
 -- where GT stands in what becomes of the block
 pub record Genotyped (strings people gt alleles n : ℕ) (earlier : List ℕ) (known : Gt) (at : ℕ) (l : List ℕ) : Type 0 where
   pub found : Gt
-  pub read : formats strings people gt alleles n earlier known at (repeated (pairOne people Format) n asItIs at l) ≡ Sound found
+  pub read : formats strings people gt alleles n earlier known at (onesOf people (replicate n FormatKind) at l) ≡ Sound found
 
 -- one FORMAT field, before what becomes of the rest
 field-ones : (strings people gt alleles n : ℕ) (earlier : List ℕ) (known known′ : Gt) (at : ℕ) (l : List ℕ) {g : Gt}
     → (j : JudgedField strings people gt alleles n earlier known at l g)
-    → formats strings people gt alleles (suc n) earlier known′ at (repeated (pairOne people Format) (suc n) asItIs at l)
+    → formats strings people gt alleles (suc n) earlier known′ at (onesOf people (replicate (suc n) FormatKind) at l)
     ≡ formats strings people gt alleles n (earlier ++ (j .key ∷ [])) (gtNow (j .key) gt (gtAt (codeFor (j .code)) (j .len) (j .first)) known′) (j .stop)
-    (repeated (pairOne people Format) n asItIs (j .stop) (drop (j .stop - at) l))
-unfolding formats repeated
+    (onesOf people (replicate n FormatKind) (j .stop) (drop (j .stop - at) l))
+unfolding formats onesOf
 field-ones strings people gt alleles n earlier known known′ at l j =
     let next = j .next in
     let first = j .first in
@@ -39,7 +40,7 @@ field-ones strings people gt alleles n earlier known known′ at l j =
     let c = j .ends in
     let i = j .inside in
     let l1 = drop (next - at) l in
-    let rest = repeated (pairOne people Format) n asItIs in
+    let rest = onesOf people (replicate n FormatKind) in
     let there = format-there people alleles (j .key) gt next l1 (j .code) (j .len) first stop (j .value) in
     let behind = drop-past l at next stop a (omega arith) in
     let m = rest stop (drop (stop - next) l1) in
@@ -69,7 +70,7 @@ none-over strings people gt alleles earlier known known′ at (b ∷ rest) h = c
 -- the law: fields that are sound are sound with 01 in place of each bare 00
 formats-ones : (strings people gt alleles n : ℕ) (earlier : List ℕ) (known known′ : Gt) (at : ℕ) (l : List ℕ) {g : Gt}
     → formats strings people gt alleles n earlier known at l ≡ Sound g → Genotyped strings people gt alleles n earlier known′ at l
-unfolding repeated
+unfolding onesOf
 formats-ones strings people gt alleles zero earlier known known′ at l h = record { found = known′; read = none-over strings people gt alleles earlier known known′ at l h }
 formats-ones strings people gt alleles (suc n) earlier known known′ at l h =
     let j = formats-field strings people gt alleles n earlier known at l h in

@@ -5,7 +5,7 @@ use mathlib.Core.Bool.{Bool, true, false}
 use Prim.Native.Nat.{ℕ, zero, suc, _-_}
 use native.Mathlib.Omega.{arith}
 use lib.Dec.{eqb}
-use lib.ListN.{length, getD, take, drop, take-append-drop}
+use lib.ListN.{length, getD, take, drop, take-append-drop, replicate}
 use borrow.Author.Tests.{eq-eqb}
 use Rattle.words.specs.Pick.{pick}
 use Rattle.types.specs.declared.Use.{Use}
@@ -19,8 +19,11 @@ use Rattle.fixed.specs.Layout.{idAt}
 use Rattle.fixed.specs.declared.Facts.{Facts}
 use Rattle.fixed.specs.declared.Site.{Site}
 use Rattle.fixed.proofs.Fits.{Fits}
-use Rattle.bare.specs.Ones.{Rest, asItIs, oneFor, sameOrOne, pastValue, valueOne, pastKey, pairOne, repeated, siteOnes, genotypeOnes, withOnes}
-use Rattle.bare.proofs.Records.{even-site, even-genotypes, part-rest}
+use Rattle.fetch.specs.Account.{siteKinds}
+use Rattle.fetch.specs.declared.Kind.{Kind}
+use Rattle.fetch.specs.declared.Kind.the-variants.{Id as IdKind, Allele as AlleleKind, Filter as FilterKind, Info as InfoKind, Format as FormatKind}
+use Rattle.bare.specs.Ones.{Rest, oneFor, sameOrOne, pastValue, valueOne, pastKey, pairOne, oneOf, onesOf, withOnes}
+use Rattle.bare.proofs.Records.{even-ones, part-rest}
 
 -- each byte of the second list is the first's, or 01 for 00
 abbrev Kept : List ℕ → List ℕ → Type 0
@@ -76,20 +79,17 @@ keeps-pair vectors role rest h at l = by-key (integer Key at l)
     by-key (NoInteger r) = kept-same l
     by-key (One key next) = kept-front (next - at) l _ (keeps-value vectors role rest h next (drop (next - at) l))
 
-keeps-repeated : (step : Rest → Rest) → ((rest : Rest) → Keeps rest → Keeps (step rest)) → (n : ℕ) (rest : Rest) → Keeps rest → Keeps (repeated step n rest)
-unfolding repeated
-keeps-repeated step f zero rest h = h
-keeps-repeated step f (suc n) rest h = f (repeated step n rest) (keeps-repeated step f n rest h)
+keeps-one : (kind : Kind) (people : ℕ) (rest : Rest) → Keeps rest → Keeps (oneOf kind people rest)
+keeps-one IdKind people = keeps-value 1 Id
+keeps-one AlleleKind people = keeps-value 1 Allele
+keeps-one FilterKind people = keeps-value 1 Filter
+keeps-one InfoKind people = keeps-pair 1 Info
+keeps-one FormatKind people = keeps-pair people Format
 
-keeps-site : (alleles infos : ℕ) → Keeps (siteOnes alleles infos)
-unfolding siteOnes
-keeps-site alleles infos =
-    keeps-value 1 Id _ (keeps-repeated (valueOne 1 Allele) (keeps-value 1 Allele) alleles _
-    (keeps-value 1 Filter _ (keeps-repeated (pairOne 1 Info) (keeps-pair 1 Info) infos asItIs (λ at l. kept-same l))))
-
-keeps-genotypes : (people formats : ℕ) → Keeps (genotypeOnes people formats)
-unfolding genotypeOnes
-keeps-genotypes people formats = keeps-repeated (pairOne people Format) (keeps-pair people Format) formats asItIs (λ at l. kept-same l)
+keeps-ones : (people : ℕ) (kinds : List Kind) → Keeps (onesOf people kinds)
+unfolding onesOf
+keeps-ones people [] = λ at l. kept-same l
+keeps-ones people (kind ∷ kinds) = keeps-one kind people (onesOf people kinds) (keeps-ones people kinds)
 
 -- the parts one after the other
 kept-both : (a b c d : List ℕ) → length b ≡ length a → Kept a b → Kept c d → Kept (a ++ c) (b ++ d)
@@ -113,11 +113,11 @@ withOnes-kept f s t x =
     let fields = drop (t .border) (take (t .length) s) in
     let whole : take idAt s ++ (block ++ (fields ++ drop (t .length) s)) ≡ s =
     rw (part-rest s (t .border) (t .length) (omega arith), part-rest s idAt (t .border) a) (take-append-drop idAt s) in
-    let site = siteOnes (t .alleles) (t .infos) idAt block in
-    let genotypes = genotypeOnes (t .people) (t .formats) (t .border) fields in
+    let site = onesOf (t .people) (siteKinds (t .alleles) (t .infos)) idAt block in
+    let genotypes = onesOf (t .people) (replicate (t .formats) FormatKind) (t .border) fields in
     let after = drop (t .length) s in
     kept-of (take idAt s ++ (block ++ (fields ++ after))) s (take idAt s ++ (site ++ (genotypes ++ after))) whole
     (kept-both (take idAt s) (take idAt s) (block ++ (fields ++ after)) (site ++ (genotypes ++ after)) refl (kept-same (take idAt s))
-    (kept-both block site (fields ++ after) (genotypes ++ after) (even-site (t .alleles) (t .infos) idAt block) (keeps-site (t .alleles) (t .infos) idAt block)
-    (kept-both fields genotypes after after (even-genotypes (t .people) (t .formats) (t .border) fields)
-    (keeps-genotypes (t .people) (t .formats) (t .border) fields) (kept-same after))))
+    (kept-both block site (fields ++ after) (genotypes ++ after) (even-ones (t .people) (siteKinds (t .alleles) (t .infos)) idAt block) (keeps-ones (t .people) (siteKinds (t .alleles) (t .infos)) idAt block)
+    (kept-both fields genotypes after after (even-ones (t .people) (replicate (t .formats) FormatKind) (t .border) fields)
+    (keeps-ones (t .people) (replicate (t .formats) FormatKind) (t .border) fields) (kept-same after))))

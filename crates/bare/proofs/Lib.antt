@@ -1,9 +1,8 @@
+pub mod Account
 pub mod Found
 pub mod Genotypes
 pub mod Kept
-pub mod Left
 pub mod Records
-pub mod Shows
 pub mod Stand
 pub mod Steps
 pub mod Tight

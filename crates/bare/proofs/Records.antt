@@ -1,10 +1,10 @@
--- A whole record whose bare 00 become 01: as long as it was, accepted with the same site, and it shows the same. Rests on proofs/Steps,
--- Genotypes and Shows, and on what an accepted record's reading went through.
+-- A whole record whose bare 00 become 01: as long as it was, and accepted with the same site. Rests on proofs/Steps and Genotypes, and on what an
+-- accepted record's reading went through.
 use mathlib.Core.Path.{_≡_, refl, sym, _∙_, ap}
 use mathlib.Core.List.{List, [], _∷_, _++_, append-assoc}
 use Prim.Native.Nat.{ℕ, zero, suc, _+_, _-_, _≤_}
 use native.Mathlib.Omega.{arith}
-use lib.ListN.{length, take, drop, length-append, length-drop, take-append-drop}
+use lib.ListN.{length, take, drop, replicate, length-append, length-drop, take-append-drop}
 use lib.Seq.{length-take-le, take-at, drop-at, take-nil, drop-nil}
 use Rattle.types.specs.declared.Use.{Use}
 use Rattle.types.specs.declared.Use.the-variants.{Id, Allele, Filter, Key, Info, Format}
@@ -24,15 +24,16 @@ use Rattle.genotypes.specs.Formats.{formats, noGt}
 use Rattle.genotypes.specs.declared.Gt.{Gt}
 use Rattle.genotypes.specs.declared.Genotypes.the-variants.{Sound}
 use Rattle.record.specs.Reading.{siteOf, genotypesOf, reading}
-use Rattle.record.specs.Shown.{Shown, Field, showing, allelesThen, pairsShown, fieldsShown, nothing, shownOf}
 use Rattle.record.specs.declared.Reading.the-variants.{Accepted}
 use Rattle.record.proofs.Accepted.{accepted, accepted-fits}
+use Rattle.fetch.specs.Account.{siteKinds}
+use Rattle.fetch.specs.declared.Kind.{Kind}
+use Rattle.fetch.specs.declared.Kind.the-variants.{Id as IdKind, Allele as AlleleKind, Filter as FilterKind, Info as InfoKind, Format as FormatKind}
 use Rattle.fetched.proofs.Fronts.{field-take, field-append}
-use Rattle.bare.specs.Ones.{Rest, asItIs, pastValue, valueOne, pastKey, pairOne, repeated, siteOnes, genotypeOnes, withOnes}
+use Rattle.bare.specs.Ones.{Rest, pastValue, valueOne, pastKey, pairOne, oneOf, onesOf, withOnes}
 use Rattle.bare.proofs.Values.{length-oneFor}
 use Rattle.bare.proofs.Steps.{site-ones}
 use Rattle.bare.proofs.Genotypes.{Genotyped, genotypes-ones}
-use Rattle.bare.proofs.Shows.{showing-ones, alleles-ones, pairs-ones, fields-ones}
 
 -- what becomes of a block is as long as it was
 abbrev pub Even : Rest → Type 0
@@ -59,20 +60,17 @@ even-pair vectors role rest e at l = by-key (integer Key at l)
     by-key (One key next) =
         rw (length-append, even-value vectors role rest e next (drop (next - at) l)) (length-parts (next - at) l)
 
-even-repeated : (step : Rest → Rest) → ((rest : Rest) → Even rest → Even (step rest)) → (n : ℕ) (rest : Rest) → Even rest → Even (repeated step n rest)
-unfolding repeated
-even-repeated step f zero rest e = e
-even-repeated step f (suc n) rest e = f (repeated step n rest) (even-repeated step f n rest e)
+even-one : (kind : Kind) (people : ℕ) (rest : Rest) → Even rest → Even (oneOf kind people rest)
+even-one IdKind people = even-value 1 Id
+even-one AlleleKind people = even-value 1 Allele
+even-one FilterKind people = even-value 1 Filter
+even-one InfoKind people = even-pair 1 Info
+even-one FormatKind people = even-pair people Format
 
-pub even-site : (alleles infos : ℕ) → Even (siteOnes alleles infos)
-unfolding siteOnes
-even-site alleles infos =
-    even-value 1 Id _ (even-repeated (valueOne 1 Allele) (even-value 1 Allele) alleles _
-    (even-value 1 Filter _ (even-repeated (pairOne 1 Info) (even-pair 1 Info) infos asItIs (λ at l. refl))))
-
-pub even-genotypes : (people formats : ℕ) → Even (genotypeOnes people formats)
-unfolding genotypeOnes
-even-genotypes people formats = even-repeated (pairOne people Format) (even-pair people Format) formats asItIs (λ at l. refl)
+pub even-ones : (people : ℕ) (kinds : List Kind) → Even (onesOf people kinds)
+unfolding onesOf
+even-ones people [] = λ at l. refl
+even-ones people (kind ∷ kinds) = even-one kind people (onesOf people kinds) (even-ones people kinds)
 
 -- the parts of a list, put together again
 pub part-rest : (s : List ℕ) (a b : ℕ) → a ≤ b → drop a (take b s) ++ drop b s ≡ drop a s
@@ -84,8 +82,8 @@ part-rest (x ∷ s) (suc a) (suc b) h = part-rest s a b (omega arith)
 -- a record whose front fits its site, cut into its parts
 record Parts (t : Site) (s : List ℕ) : Type 0 where
   front : length (take idAt s) ≡ idAt
-  site : length (siteOnes (t .alleles) (t .infos) idAt (drop idAt (take (t .border) s))) ≡ t .border - idAt
-  genotypes : length (genotypeOnes (t .people) (t .formats) (t .border) (drop (t .border) (take (t .length) s))) ≡ t .length - t .border
+  site : length (onesOf (t .people) (siteKinds (t .alleles) (t .infos)) idAt (drop idAt (take (t .border) s))) ≡ t .border - idAt
+  genotypes : length (onesOf (t .people) (replicate (t .formats) FormatKind) (t .border) (drop (t .border) (take (t .length) s))) ≡ t .length - t .border
 
 parts : (f : Facts) (s : List ℕ) (t : Site) → Fits f s t → Parts t s
 parts f s t x =
@@ -95,18 +93,18 @@ parts f s t x =
     let d = x .whole in
     record {
       front = length-take-le idAt s (omega arith);
-      site = even-site (t .alleles) (t .infos) idAt (drop idAt (take (t .border) s))
+      site = even-ones (t .people) (siteKinds (t .alleles) (t .infos)) idAt (drop idAt (take (t .border) s))
           ∙ rw (length-drop, length-take-le (t .border) s (omega arith));
-      genotypes = even-genotypes (t .people) (t .formats) (t .border) (drop (t .border) (take (t .length) s))
+      genotypes = even-ones (t .people) (replicate (t .formats) FormatKind) (t .border) (drop (t .border) (take (t .length) s))
           ∙ rw (length-drop, length-take-le (t .length) s b);
     }
 
 -- and where the parts lie in the record that it becomes
 pub record Lies (t : Site) (s : List ℕ) : Type 0 where
   pub length-same : length (withOnes t s) ≡ length s
-  pub site : drop idAt (take (t .border) (withOnes t s)) ≡ siteOnes (t .alleles) (t .infos) idAt (drop idAt (take (t .border) s))
+  pub site : drop idAt (take (t .border) (withOnes t s)) ≡ onesOf (t .people) (siteKinds (t .alleles) (t .infos)) idAt (drop idAt (take (t .border) s))
   pub genotypes : drop (t .border) (take (t .length) (withOnes t s))
-      ≡ genotypeOnes (t .people) (t .formats) (t .border) (drop (t .border) (take (t .length) s))
+      ≡ onesOf (t .people) (replicate (t .formats) FormatKind) (t .border) (drop (t .border) (take (t .length) s))
 
 pub lies : (f : Facts) (s : List ℕ) (t : Site) → Fits f s t → Lies t s
 unfolding withOnes
@@ -117,8 +115,8 @@ lies f s t x =
     let d = x .whole in
     let p = parts f s t x in
     let u = take idAt s in
-    let v = siteOnes (t .alleles) (t .infos) idAt (drop idAt (take (t .border) s)) in
-    let w = genotypeOnes (t .people) (t .formats) (t .border) (drop (t .border) (take (t .length) s)) in
+    let v = onesOf (t .people) (siteKinds (t .alleles) (t .infos)) idAt (drop idAt (take (t .border) s)) in
+    let w = onesOf (t .people) (replicate (t .formats) FormatKind) (t .border) (drop (t .border) (take (t .length) s)) in
     let z = drop (t .length) s in
     let uv : length (u ++ v) ≡ t .border = rw (length-append, p .front, p .site) (omega arith) in
     let uvw : length (u ++ v ++ w) ≡ t .length = rw (length-append, uv, p .genotypes) (omega arith) in
@@ -178,7 +176,7 @@ whole f t g s e a b c = rw (a, b, c)
 siteOf-ones : (f : Facts) (s : List ℕ) (t : Site) (e : ℕ) → Fits f s t → siteOf f t s ≡ At e → siteOf f t (withOnes t s) ≡ At e
 unfolding siteOf
 siteOf-ones f s t e x h =
-    rw (lies f s t x .site) (site-ones (f .strings) (t .alleles) (t .infos) idAt (drop idAt (take (t .border) s)) e h)
+    rw (lies f s t x .site) (site-ones (f .strings) (t .people) (t .alleles) (t .infos) idAt (drop idAt (take (t .border) s)) e h)
 
 genotypesOf-ones : (f : Facts) (s : List ℕ) (t : Site) (g : Gt) → genotypesOf f t s ≡ Sound g
     → Genotyped (f .strings) (f .people) (f .gt) (t .alleles) (t .formats) [] noGt (t .border) (drop (t .border) (take (t .length) s))
@@ -188,10 +186,10 @@ genotypesOf-ones f s t g h =
 
 genotypes-there : (f : Facts) (s : List ℕ) (t : Site) (g : Gt) → Fits f s t
     → formats (f .strings) (f .people) (f .gt) (t .alleles) (t .formats) [] noGt (t .border)
-    (repeated (pairOne (f .people) Format) (t .formats) asItIs (t .border) (drop (t .border) (take (t .length) s)))
+    (onesOf (f .people) (replicate (t .formats) FormatKind) (t .border) (drop (t .border) (take (t .length) s)))
     ≡ Sound g
     → genotypesOf f t (withOnes t s) ≡ Sound g
-unfolding genotypesOf genotypeOnes
+unfolding genotypesOf
 genotypes-there f s t g x h =
     rw (lies f s t x .genotypes, people-given (f .people) (t .formats) (t .people) (x .peopleRight) .0) h
 
@@ -205,51 +203,3 @@ reads-ones f s t g h =
       read = whole f t (n .found) (withOnes t s) (r .end) (fits-fixed f (withOnes t s) t (fits-ones f s t x)) (siteOf-ones f s t (r .end) x (r .block))
           (genotypes-there f s t (n .found) x (n .read));
     }
-
--- what is shown once ID is, once the alleles are, and once FILTER is
-abbrev afterFilter : Site → List Field → List ℕ → List (List ℕ) → ℕ → ℕ → List ℕ → ℕ → List ℕ → Shown
-afterFilter t fields id alleles _ _ filters r k =
-    record {
-      chrom = t .chrom;
-      pos = t .pos;
-      rlen = t .rlen;
-      qual = t .qual;
-      id = id;
-      alleles = alleles;
-      filters = filters;
-      infos = pairsShown (t .infos) r k;
-      formats = fields;
-    }
-
-abbrev afterAlleles : Site → List Field → List ℕ → List (List ℕ) → ℕ → List ℕ → Shown
-afterAlleles t fields id alleles q m = showing q m (nothing t) (afterFilter t fields id alleles) (present 1 Filter q m)
-
-abbrev afterId : Site → List Field → ℕ → ℕ → List ℕ → ℕ → List ℕ → Shown
-afterId t fields _ _ id p l = allelesThen (t .alleles) p l (nothing t) (afterAlleles t fields id)
-
--- the law: it shows the same
-block-shows : (t : Site) (fields : List Field) (at : ℕ) (l : List ℕ)
-    → showing at (siteOnes (t .alleles) (t .infos) at l) (nothing t) (afterId t fields) (present 1 Id at (siteOnes (t .alleles) (t .infos) at l))
-    ≡ showing at l (nothing t) (afterId t fields) (present 1 Id at l)
-unfolding siteOnes
-block-shows t fields at l =
-    showing-ones 1 Id fromAlleles at l (nothing t) (afterId t fields) (afterId t fields)
-    (λ _ _ id p m. alleles-ones (t .alleles) fromFilter p m (nothing t) (afterAlleles t fields id) (afterAlleles t fields id)
-    (λ alleles q k. showing-ones 1 Filter fromInfo q k (nothing t) (afterFilter t fields id alleles) (afterFilter t fields id alleles)
-    (λ _ _ filters r j. rw (pairs-ones (t .infos) r j))))
-  where
-    fromInfo : Rest
-    fromInfo = repeated (pairOne 1 Info) (t .infos) asItIs
-
-    fromFilter : Rest
-    fromFilter = valueOne 1 Filter fromInfo
-
-    fromAlleles : Rest
-    fromAlleles = repeated (valueOne 1 Allele) (t .alleles) fromFilter
-
-pub shownOf-ones : (f : Facts) (s : List ℕ) (t : Site) (g : Gt) → reading f s ≡ Accepted t g → shownOf t (withOnes t s) ≡ shownOf t s
-unfolding shownOf genotypeOnes
-shownOf-ones f s t g h =
-    let y = lies f s t (accepted-fits f s t g h) in
-    rw (y .site, y .genotypes, fields-ones (t .people) (t .formats) (t .border) (drop (t .border) (take (t .length) s)))
-    (block-shows t (fieldsShown (t .people) (t .formats) (t .border) (drop (t .border) (take (t .length) s))) idAt (drop idAt (take (t .border) s)))

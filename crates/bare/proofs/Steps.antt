@@ -1,19 +1,19 @@
 -- Steps through the site block whose bare 00 become 01: each comes to the same place, before what becomes of the rest. Rests on proofs/Values
 -- and on the definitions of site.
 use mathlib.Core.Path.{_≡_, refl, sym, _∙_, ap}
-use mathlib.Core.List.{List, [], _++_}
+use mathlib.Core.List.{List, [], _∷_, _++_, append-nil}
 use mathlib.Core.Bool.{Bool, true, false}
 use Prim.Native.Nat.{ℕ, zero, suc, _+_, _-_, _≤_}
 use native.Mathlib.Omega.{arith}
 use native.Mathlib.Nat.{sub-self, zero-div}
 use lib.Dec.{eqb}
 use borrow.Author.Tests.{eqb-true}
-use lib.ListN.{take, drop}
+use lib.ListN.{take, drop, replicate}
 use lib.Seq.{length-take-le, drop-at}
 use Rattle.words.specs.Pick.{pick}
 use Rattle.types.specs.Rows.{widthOf}
 use Rattle.types.specs.declared.Use.{Use}
-use Rattle.types.specs.declared.Use.the-variants.{Id, Allele, Filter, Key, Info}
+use Rattle.types.specs.declared.Use.the-variants.{Id, Allele, Filter, Key, Info, Format}
 use Rattle.values.specs.Values.{integer, keyed, present}
 use Rattle.values.specs.declared.Integer.{Integer}
 use Rattle.values.specs.declared.Integer.the-variants.{One, Refused as NoInteger}
@@ -29,12 +29,44 @@ use Rattle.site.specs.Filters.{filters, filtered, filterValue, filter}
 use Rattle.site.specs.Site.{info, infoValue, site}
 use Rattle.site.specs.declared.Step.{Step}
 use Rattle.site.specs.declared.Step.the-variants.{At, Refused as NoStep}
+use Rattle.fetch.specs.Account.{siteKinds}
+use Rattle.fetch.specs.declared.Kind.{Kind}
+use Rattle.fetch.specs.declared.Kind.the-variants.{Id as IdKind, Allele as AlleleKind, Filter as FilterKind, Info as InfoKind, Format as FormatKind}
 use Rattle.fetched.proofs.Agree.{allele-value, filter-value, went}
 use Rattle.fetched.proofs.FormatFields.{keyed-integer}
 use Rattle.fetched.proofs.Fronts.{integer-front, keyed-front}
-use Rattle.fetched.proofs.Inside.{integer-inside, present-inside, drop-past}
-use Rattle.bare.specs.Ones.{Rest, oneFor, valueOne, pairOne, repeated, siteOnes}
-use Rattle.bare.proofs.Values.{codeFor, present-zero, present-ones, soundly-ones, part-ones, drop-ones}
+use Rattle.fetch.proofs.Inside.{integer-inside, present-inside, drop-past}
+use Rattle.bare.specs.Ones.{Rest, asItIs, oneFor, valueOne, pairOne, oneOf, onesOf}
+use Rattle.contents.proofs.Bare.{present-zero}
+use Rattle.bare.proofs.Values.{codeFor, present-ones, soundly-ones, part-ones, drop-ones}
+
+-- so many fields of a kind, one after the other
+unfoldable pub repeated : (Rest → Rest) → ℕ → Rest → Rest
+repeated step zero rest = rest
+repeated step (suc n) rest = step (repeated step n rest)
+
+ones-repeated : (people : ℕ) (kind : Kind) (n : ℕ) (kinds : List Kind)
+    → onesOf people (replicate n kind ++ kinds) ≡ repeated (oneOf kind people) n (onesOf people kinds)
+unfolding onesOf repeated
+ones-repeated people kind zero kinds = refl
+ones-repeated people kind (suc n) kinds = ap (oneOf kind people) (ones-repeated people kind n kinds)
+
+-- what becomes of the two blocks, kind by kind
+pub formats-form : (people n : ℕ) → onesOf people (replicate n FormatKind) ≡ repeated (pairOne people Format) n asItIs
+unfolding onesOf
+formats-form people n = ap (onesOf people) (sym (append-nil (replicate n FormatKind))) ∙ ones-repeated people FormatKind n []
+
+infos-form : (people n : ℕ) → onesOf people (replicate n InfoKind) ≡ repeated (pairOne 1 Info) n asItIs
+unfolding onesOf
+infos-form people n = ap (onesOf people) (sym (append-nil (replicate n InfoKind))) ∙ ones-repeated people InfoKind n []
+
+pub site-form : (people alleles infos : ℕ)
+    → onesOf people (siteKinds alleles infos)
+    ≡ valueOne 1 Id (repeated (valueOne 1 Allele) alleles (valueOne 1 Filter (repeated (pairOne 1 Info) infos asItIs)))
+unfolding siteKinds onesOf
+site-form people alleles infos =
+    ap (valueOne 1 Id) (ones-repeated people AlleleKind alleles (FilterKind ∷ replicate infos InfoKind)
+    ∙ ap (λ (rest : Rest). repeated (valueOne 1 Allele) alleles (valueOne 1 Filter rest)) (infos-form people infos))
 
 -- a step that comes to the same place in what becomes of the block, and behind it stands what becomes of the rest
 abbrev pub Passes : (ℕ → List ℕ → Step) → (Rest → Rest) → Type 0
@@ -234,11 +266,12 @@ info-passes strings rest at l q h =
     (sym (info-key at _ (keyed strings at _)) ∙ a .0, a .1, a .2)
 
 -- the law: a site block that is read to its last byte is so with 01 in place of each bare 00
-pub site-ones : (strings alleles infos at : ℕ) (l : List ℕ) (e : ℕ) → site strings alleles infos at l ≡ At e
-    → site strings alleles infos at (siteOnes alleles infos at l) ≡ At e
-unfolding site siteOnes
-site-ones strings alleles infos at l e h =
-    then-passes (λ at l. valueStep (sound 1 0 Id at l)) (valueOne 1 Id) _ _ (sound-passes Id)
+pub site-ones : (strings people alleles infos at : ℕ) (l : List ℕ) (e : ℕ) → site strings alleles infos at l ≡ At e
+    → site strings alleles infos at (onesOf people (siteKinds alleles infos) at l) ≡ At e
+unfolding site
+site-ones strings people alleles infos at l e h =
+    ap (λ (w : Rest). site strings alleles infos at (w at l)) (site-form people alleles infos)
+    ∙ then-passes (λ at l. valueStep (sound 1 0 Id at l)) (valueOne 1 Id) _ _ (sound-passes Id)
     (λ p fromAlleles. then-passes (times allele alleles) (repeated (valueOne 1 Allele) alleles) _ _ (times-passes allele (valueOne 1 Allele) allele-passes alleles)
     (λ q fromFilter. then-passes (filter strings) (valueOne 1 Filter) _ _ (filter-passes strings)
     (λ r fromInfo. then-passes (times (info strings) infos) (repeated (pairOne 1 Info) infos) _ _

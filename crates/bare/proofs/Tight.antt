@@ -5,7 +5,7 @@ use mathlib.Core.Bool.{Bool, true, false}
 use Prim.Native.Nat.{ℕ, zero, suc, _+_, _-_, _*_, _%_, _<_, _≤_}
 use native.Mathlib.Omega.{arith}
 use lib.Dec.{ltb}
-use lib.ListN.{length, take, drop, length-append, take-append-drop}
+use lib.ListN.{length, take, drop, length-append, take-append-drop, replicate}
 use lib.Seq.{take-at}
 use Rattle.words.specs.Pick.{pick}
 use Rattle.types.specs.Rows.{rowOf, widthOf, allowed}
@@ -33,15 +33,13 @@ use Rattle.built.proofs.Blocks.{allowed-format, length-person}
 use Rattle.built.proofs.Front.{siteFor, length-recordBytes, fits-record, site-block, genotype-block}
 use Rattle.built.proofs.Builds.{wrote-record}
 use Rattle.built.proofs.Kept.{turns-keep}
-use Rattle.bare.specs.Ones.{Rest, asItIs, oneFor, valueOne, pairOne, repeated, siteOnes, genotypeOnes, withOnes}
+use Rattle.fetch.specs.Account.{siteKinds}
+use Rattle.fetch.specs.declared.Kind.the-variants.{Format as FormatKind}
+use Rattle.contents.proofs.Bare.{wide-type}
+use Rattle.bare.specs.Ones.{Rest, asItIs, oneFor, valueOne, pairOne, onesOf, withOnes}
 use Rattle.bare.proofs.Values.{oneFor-same}
+use Rattle.bare.proofs.Steps.{repeated, site-form, formats-form}
 use Rattle.bare.proofs.Records.{part-rest}
-
--- a type with a width is not type 0
-wide-type : (t : ℕ) → 0 < widthOf t → 0 < t
-unfolding widthOf rowOf
-wide-type zero h = absurd (omega arith)
-wide-type (suc t) h = omega arith
 
 -- no value is written with a descriptor 00
 oneFor-given : (k : Kind) (n : ℕ) (xs : List ℕ) → oneFor (givenBytes k n xs) ≡ givenBytes k n xs
@@ -154,8 +152,8 @@ all-fit f alleles earlier (x ∷ xs) p k h =
 
 -- the two blocks of what keeps the rules
 site-given : (f : Facts) (r : Shown) (at : ℕ) → Keeps f r → length (siteBytes r) ≤ mostBytes
-    → siteOnes (length (r .alleles)) (length (r .infos)) at (siteBytes r) ≡ siteBytes r
-unfolding siteOnes siteBytes rowOf
+    → onesOf (f .people) (siteKinds (length (r .alleles)) (length (r .infos))) at (siteBytes r) ≡ siteBytes r
+unfolding siteBytes rowOf
 site-given f r at k h =
     let a = textBytes (r .id) in
     let b = joined textBytes (r .alleles) in
@@ -168,7 +166,8 @@ site-given f r at k h =
     let infos : repeated (pairOne 1 Info) (length (r .infos)) asItIs q d ≡ d =
     rw (append-nil d) at
     (repeated-joined (pairOne 1 Info) infoBytes (KeepsInfo (f .strings)) (info-given (f .strings)) asItIs q (r .infos) [] (k .infos) (omega arith)) in
-    rw (
+    ap (λ (w : Rest). w at (siteBytes r)) (site-form (f .people) (length (r .alleles)) (length (r .infos)))
+    ∙ rw (
       text-given Id _ at (r .id) (b ++ (c ++ d)) refl (omega arith),
       repeated-joined (valueOne 1 Allele) textBytes KeepsAllele allele-given _ (at + length a) (r .alleles) (c ++ d) (k .alleles) (omega arith),
       value-given 1 Filter _ (at + length a + length b) integers (length (r .filters)) (r .filters) d refl
@@ -177,17 +176,18 @@ site-given f r at k h =
     )
 
 genotypes-given : (f : Facts) (r : Shown) (at : ℕ) → Keeps f r → length (genotypeBytes r) ≤ mostBytes
-    → genotypeOnes (f .people) (length (r .formats)) at (genotypeBytes r) ≡ genotypeBytes r
-unfolding genotypeOnes genotypeBytes
+    → onesOf (f .people) (replicate (length (r .formats)) FormatKind) at (genotypeBytes r) ≡ genotypeBytes r
+unfolding genotypeBytes
 genotypes-given f r at k h =
     let d = joined fieldBytes (r .formats) in
-    rw (append-nil d) at
+    ap (λ (w : Rest). w at d) (formats-form (f .people) (length (r .formats)))
+    ∙ rw (append-nil d) at
     (repeated-joined (pairOne (f .people) Format) fieldBytes (FieldFits (f .people)) (field-given (f .people)) asItIs at (r .formats) []
     (all-fit f (length (r .alleles)) [] (r .formats) (k .people) (k .formats) h) h)
 
 withOnes-same : (t : Site) (s : List ℕ) → idAt ≤ t .border → t .border ≤ t .length
-    → siteOnes (t .alleles) (t .infos) idAt (drop idAt (take (t .border) s)) ≡ drop idAt (take (t .border) s)
-    → genotypeOnes (t .people) (t .formats) (t .border) (drop (t .border) (take (t .length) s)) ≡ drop (t .border) (take (t .length) s)
+    → onesOf (t .people) (siteKinds (t .alleles) (t .infos)) idAt (drop idAt (take (t .border) s)) ≡ drop idAt (take (t .border) s)
+    → onesOf (t .people) (replicate (t .formats) FormatKind) (t .border) (drop (t .border) (take (t .length) s)) ≡ drop (t .border) (take (t .length) s)
     → withOnes t s ≡ s
 unfolding withOnes
 withOnes-same t s h k a b =

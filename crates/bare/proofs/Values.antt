@@ -27,9 +27,11 @@ use Rattle.vectors.specs.Sound.{mostOf, soundly, sound}
 use Rattle.vectors.specs.declared.Judged.the-variants.{Sound}
 use Rattle.record.specs.Shown.{elementsOf}
 use Rattle.fetched.proofs.Agree.{sound-there, soundly-judged}
-use Rattle.fetched.proofs.Inside.{present-inside}
+use Rattle.fetch.proofs.Inside.{present-inside}
 use Rattle.fetched.proofs.Present.{present-typed}
-use Rattle.fetched.proofs.Fronts.{present-front, take-past, numbers-take, shownNumbers-numbers}
+use Rattle.fetched.proofs.Fronts.{present-front, take-past}
+use Rattle.contents.proofs.Bare.{described-zero, present-zero}
+use Rattle.contents.proofs.Elements.{elementsOf-take, elementsOf-none}
 use Rattle.bare.specs.Ones.{oneFor}
 
 -- the type of a value once its descriptor 00 is 01
@@ -47,50 +49,6 @@ one-allowed Length h = cc
 one-allowed Info h = refl
 one-allowed Format h = refl
 one-allowed Gt h = refl
-
--- a descriptor of type 0 is a bare 00, at a use that takes one
-pub record Bare (role : Use) (at : ℕ) (l : List ℕ) (n first : ℕ) : Type 0 where
-  pub rest : List ℕ
-  pub zero : l ≡ 0 ∷ rest
-  pub none : n ≡ 0
-  pub next : first ≡ at + 1
-  pub takes : allowed (rowOf 0) role ≡ true
-
-pub described-zero : (role : Use) (at : ℕ) (l : List ℕ) (n first : ℕ) → described role at l ≡ Typed 0 n first → Bare role at l n first
-unfolding described
-described-zero role at [] n first h = let z : _≡_ {A = ℕ} 0 1 = cc in absurd (omega arith)
-described-zero role at (d ∷ rest) n first h = by-tests (mayStand role (d % 16) (d / 16)) (ltb (d / 16) 15) (trueLength (at + 1) rest) refl refl h
-  where
-    bare : d % 16 ≡ 0 → mayStand role (d % 16) (d / 16) ≡ true → (allowed (rowOf 0) role ≡ true) × (d ≡ 0)
-    bare e p = let k = mayStand-zero role (d / 16) (rw e at p) in (k .0, omega (arith, k .1))
-
-    by-tests : (a b : Bool) (i : Integer) → mayStand role (d % 16) (d / 16) ≡ a → ltb (d / 16) 15 ≡ b
-        → pick a (pick b (typed (d % 16) (d / 16) (at + 1)) (withLength (d % 16) i)) (noDescriptor 6 at) ≡ Typed 0 n first → Bare role at (d ∷ rest) n first
-    by-tests false b i p q e = let z : _≡_ {A = ℕ} 0 1 = cc in absurd (omega arith)
-    by-tests true true i p q e =
-        let t : d % 16 ≡ 0 = cc in
-        let len : d / 16 ≡ n = cc in
-        let next : at + 1 ≡ first = cc in
-        let k = bare t p in
-        let z = k .1 in
-        record { rest = rest; zero = ap (λ b. b ∷ rest) z; none = omega arith; next = sym next; takes = k .0 }
-    by-tests true false (NoInteger r) p q e = let z : _≡_ {A = ℕ} 0 1 = cc in absurd (omega arith)
-    by-tests true false (One x next) p q e =
-        let t : d % 16 ≡ 0 = cc in
-        let z = bare t p .1 in
-        let long = ltb-false (d / 16) 15 q in
-        absurd (omega arith)
-
--- a value of type 0 ends where its elements would begin
-pub present-zero : (vectors : ℕ) (role : Use) (at : ℕ) (l : List ℕ) (n first stop : ℕ) → present vectors role at l ≡ Present 0 n first stop
-    → Bare role at l n first × (stop ≡ first)
-unfolding widthOf rowOf
-present-zero vectors role at l n first stop h =
-    let i = present-typed vectors role at l 0 n first stop h in
-    let b = described-zero role at l n first (i .descriptor) in
-    let e = i .ends in
-    let z = mul-zero (vectors * n) in
-    (b, omega arith)
 
 -- bytes with 01 for a first 00 are as many, and the same from the second on
 pub length-oneFor : (l : List ℕ) → length (oneFor l) ≡ length l
@@ -197,21 +155,7 @@ part-ones at first stop l m h k i =
       take-at els m (stop - first) whole,
     )
 
--- elements are shown by their own bytes
-elementsOf-take : (t size : ℕ) (l m : List ℕ) → take size l ≡ take size m → elementsOf t size l ≡ elementsOf t size m
-unfolding elementsOf
-elementsOf-take t size l m h =
-    let w = widthOf t in
-    let n = size / w in
-    let few : n * w ≤ size = div-mul-le-self size w in
-    let same : take (n * w) l ≡ take (n * w) m = sym (take-take (n * w) size l few) ∙ ap (take (n * w)) h ∙ take-take (n * w) size m few in
-    rw (shownNumbers-numbers t w n l, shownNumbers-numbers t w n m, numbers-take w n l m same)
-
--- of no bytes there are no elements
-elementsOf-none : (t : ℕ) (l : List ℕ) → elementsOf t 0 l ≡ []
-unfolding elementsOf shownNumbers
-elementsOf-none t l = rw (zero-div (widthOf t))
-
+-- its elements are shown by their own bytes
 pub elements-ones : (vectors : ℕ) (role : Use) (at : ℕ) (l m : List ℕ) (t n first stop : ℕ) → present vectors role at l ≡ Present t n first stop
     → elementsOf (codeFor t) (stop - first) (drop (first - at) (oneFor (take (stop - at) l) ++ m)) ≡ elementsOf t (stop - first) (drop (first - at) l)
 elements-ones vectors role at l m t n first stop h = by-type (eqb t 0) refl

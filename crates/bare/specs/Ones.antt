@@ -1,13 +1,13 @@
 -- A record with 01 in place of each bare 00, the bytes that it gets where it is built again. No other byte moves, so every place stays.
--- Rests on values, and on the layout.
-use Prim.Native.Nat.{ℕ, zero, suc, _-_}
+-- Rests on values, on the layout and on the kinds of fields in each block.
+use Prim.Native.Nat.{ℕ, _-_}
 use mathlib.Core.List.{List, [], _∷_, _++_}
 use mathlib.Core.Bool.{Bool, true}
 use lib.Dec.{eqb}
-use lib.ListN.{take, drop}
+use lib.ListN.{take, drop, replicate}
 use Rattle.words.specs.Pick.{pick}
 use Rattle.types.specs.declared.Use.{Use}
-use Rattle.types.specs.declared.Use.the-variants.{Id, Allele, Filter, Key, Info, Format}
+use Rattle.types.specs.declared.Use.the-variants.{Id as IdUse, Allele as AlleleUse, Filter as FilterUse, Key, Info as InfoUse, Format as FormatUse}
 use Rattle.values.specs.Values.{integer, present}
 use Rattle.values.specs.declared.Integer.{Integer}
 use Rattle.values.specs.declared.Integer.the-variants.{One, Refused as NoInteger}
@@ -15,6 +15,9 @@ use Rattle.values.specs.declared.Value.{Value}
 use Rattle.values.specs.declared.Value.the-variants.{Present, Refused as NoValue}
 use Rattle.fixed.specs.Layout.{idAt}
 use Rattle.fixed.specs.declared.Site.{Site}
+use Rattle.fetch.specs.Account.{siteKinds}
+use Rattle.fetch.specs.declared.Kind.{Kind}
+use Rattle.fetch.specs.declared.Kind.the-variants.{Id, Allele, Filter, Info, Format}
 
 -- what becomes of a block from a place on
 abbrev pub Rest : Type 0
@@ -49,22 +52,22 @@ pastKey rest at l (One key next) = take (next - at) l ++ rest next (drop (next -
 unfoldable pub pairOne : ℕ → Use → Rest → Rest
 pairOne vectors role rest at l = pastKey (valueOne vectors role rest) at l (integer Key at l)
 
--- so many of them, one after the other
-unfoldable pub repeated : (Rest → Rest) → ℕ → Rest → Rest
-repeated step zero rest = rest
-repeated step (suc n) rest = step (repeated step n rest)
+-- a field of a kind, and then what follows it
+abbrev pub oneOf : Kind → ℕ → Rest → Rest
+oneOf Id people = valueOne 1 IdUse
+oneOf Allele people = valueOne 1 AlleleUse
+oneOf Filter people = valueOne 1 FilterUse
+oneOf Info people = pairOne 1 InfoUse
+oneOf Format people = pairOne people FormatUse
 
--- the site block from ID on: ID and the alleles, which have no bare 00, FILTER, and the INFO pairs; and the genotype block
-unfoldable pub siteOnes : ℕ → ℕ → Rest
-siteOnes alleles infos =
-    valueOne 1 Id (repeated (valueOne 1 Allele) alleles (valueOne 1 Filter (repeated (pairOne 1 Info) infos asItIs)))
-
-unfoldable pub genotypeOnes : ℕ → ℕ → Rest
-genotypeOnes people formats = repeated (pairOne people Format) formats asItIs
+-- fields of these kinds, one after the other
+unfoldable pub onesOf : ℕ → List Kind → Rest
+onesOf people [] = asItIs
+onesOf people (kind ∷ kinds) = oneOf kind people (onesOf people kinds)
 
 -- the whole record whose site is t, and the bytes after it
 unfoldable pub withOnes : Site → List ℕ → List ℕ
 withOnes t s =
     take idAt s
-    ++ (siteOnes (t .alleles) (t .infos) idAt (drop idAt (take (t .border) s))
-    ++ (genotypeOnes (t .people) (t .formats) (t .border) (drop (t .border) (take (t .length) s)) ++ drop (t .length) s))
+    ++ (onesOf (t .people) (siteKinds (t .alleles) (t .infos)) idAt (drop idAt (take (t .border) s))
+    ++ (onesOf (t .people) (replicate (t .formats) Format) (t .border) (drop (t .border) (take (t .length) s)) ++ drop (t .length) s))

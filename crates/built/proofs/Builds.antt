@@ -11,10 +11,11 @@ use Rattle.fixed.specs.declared.Facts.{Facts}
 use Rattle.fixed.specs.declared.Site.{Site}
 use Rattle.genotypes.specs.declared.Gt.{Gt}
 use Rattle.record.specs.Reading.{reading}
-use Rattle.record.specs.Shown.{Shown, shownOf}
+use Rattle.record.specs.Shown.{Shown}
 use Rattle.record.specs.declared.Reading.the-variants.{Accepted}
 use Rattle.build.specs.Turns.{freshState}
 use Rattle.build.specs.declared.Builder.{Builder}
+use Rattle.contents.specs.Contents.{shownOf}
 use Rattle.built.specs.Records.{recordBytes, All, Keeps}
 use Rattle.built.specs.Runs.{Turn, Run, done, next, turnsOf, gives, FitTurn, Finished}
 use Rattle.built.specs.Builds.{wrote, ReadsBack, Tight, Builds}
@@ -89,7 +90,7 @@ keeps-builds f r buf k room =
     }
 
 -- a tight record is accepted, whole, and builds again to the same bytes from what reading shows of it
-tight-record : (f : Facts) (s : List ℕ) (x : Tight f s) → s ≡ recordBytes (f .people) (gives (x .turns))
+pub tight-record : (f : Facts) (s : List ℕ) (x : Tight f s) → s ≡ recordBytes (f .people) (gives (x .turns))
 tight-record f s x = x .bytes ∙ wrote-record f (x .turns) (x .buf) (x .finished) (x .fit)
 
 pub tight-reads : (f : Facts) (s : List ℕ) (x : Tight f s) → ReadsBack f (x .turns) s (length s)

@@ -13,9 +13,10 @@ use Rattle.genotypes.specs.Formats.{noGt}
 use Rattle.genotypes.specs.declared.Gt.{Gt}
 use Rattle.genotypes.specs.declared.Genotypes.the-variants.{Sound}
 use Rattle.record.specs.Reading.{reading, siteOf, genotypesOf}
-use Rattle.record.specs.Shown.{Shown, shownOf}
+use Rattle.record.specs.Shown.{Shown}
 use Rattle.record.specs.declared.Reading.the-variants.{Accepted}
 use Rattle.fixed.proofs.Fits.{fits-fixed}
+use Rattle.contents.specs.Contents.{shownOf}
 use Rattle.built.specs.Records.{siteBytes, genotypeBytes, recordBytes, Keeps}
 use Rattle.built.proofs.Front.{siteFor, length-recordBytes, fits-record, site-block, genotype-block}
 use Rattle.built.proofs.Blocks.{Genotyped, site-bytes, formats-bytes}

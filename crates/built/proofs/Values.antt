@@ -45,7 +45,7 @@ use Rattle.built.proofs.Widths.{narrowest-types, shown-narrowest, wides
 use Rattle.built.proofs.Elements.{length-elementsBytes, shownNumbers-elements, judged-elements}
 
 -- types 1 to 3, one by one
-by-type : (P : ℕ → Type 0) → P 1 → P 2 → P 3 → (t : ℕ) → 0 < t → t ≤ 3 → P t
+pub by-type : (P : ℕ → Type 0) → P 1 → P 2 → P 3 → (t : ℕ) → 0 < t → t ≤ 3 → P t
 by-type P a b c zero h k = absurd (omega arith)
 by-type P a b c (suc zero) h k = a
 by-type P a b c (suc (suc zero)) h k = b
@@ -230,7 +230,7 @@ allele-given at xs m k h =
     )
 
 -- FILTER
-number-filters : (strings w w′ at at′ : ℕ) (earlier xs : List ℕ) → numberOf (filters strings w at earlier xs) ≡ 0
+pub number-filters : (strings w w′ at at′ : ℕ) (earlier xs : List ℕ) → numberOf (filters strings w at earlier xs) ≡ 0
     → filters strings w′ at′ earlier xs ≡ Sound
 unfolding filters
 number-filters strings w w′ at at′ earlier [] h = refl

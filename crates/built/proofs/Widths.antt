@@ -107,7 +107,7 @@ number-stored t x m =
     rw (e, k)
 
 -- 32 bits as the number y of a narrower type, whose missing mark is given
-data Narrow (missing x y : ℕ) : Type 0 where
+pub data Narrow (missing x y : ℕ) : Type 0 where
   positive : y ≡ x → x < missing → Narrow missing x y
   negative : y + (4294967296 - (missing + missing)) ≡ x → missing + 8 ≤ y → y < missing + missing → Narrow missing x y
   missed : x ≡ 0x80000000 → y ≡ missing → Narrow missing x y
@@ -129,7 +129,7 @@ widened-narrow missing x y h (ended e k) =
     let z : missing + 1 - missing ≡ 1 = omega arith in
     rw (e, k, le-ltb (missing + 1) missing (omega arith), ne-eqb (missing + 1) missing (λ z. omega arith), z)
 
-marked-narrow : (missing x y : ℕ) → 16 ≤ missing → missing ≤ 0x8000 → Narrow missing x y
+pub marked-narrow : (missing x y : ℕ) → 16 ≤ missing → missing ≤ 0x8000 → Narrow missing x y
     → marked missing (missing + 7) y ≡ marked 0x80000000 0x80000007 x
 unfolding marked
 marked-narrow missing x y g h (positive e l) = rw (lt-ltb y missing (omega arith), lt-ltb x 0x80000000 (omega arith))
@@ -206,7 +206,7 @@ narrow-bits missing x y h (missed k l) = omega arith
 narrow-bits missing x y h (ended k l) = omega arith
 
 -- what holds of codes, and of 32 bits, holds of the most of every use
-most-under : (t g x y alleles : ℕ) → y ≤ 0xFFFFFFFF → (x ≤ codeMost alleles g → y ≤ codeMost alleles t) → (role : Use)
+pub most-under : (t g x y alleles : ℕ) → y ≤ 0xFFFFFFFF → (x ≤ codeMost alleles g → y ≤ codeMost alleles t) → (role : Use)
     → x ≤ mostOf role alleles g → y ≤ mostOf role alleles t
 most-under t g x y alleles b c Gt h = c h
 most-under t g x y alleles b c Id h = b
@@ -256,7 +256,7 @@ unfolding narrowed shown widthOf rowOf
 held-text x h = held-whole 7 x (stored-whole 7 x refl h) refl
 
 -- an integer takes one of types 1 to 3 by itself
-typeFor-types : (e : Element) (x : ℕ) → (0 < typeFor e x) × (typeFor e x ≤ 3)
+pub typeFor-types : (e : Element) (x : ℕ) → (0 < typeFor e x) × (typeFor e x ≤ 3)
 typeFor-types Plain x = narrowest-types x
 typeFor-types Reserved x = narrowest-types x
 typeFor-types Missing x = (omega arith, omega arith)
@@ -320,7 +320,7 @@ narrowed-narrowest x = by-given (given x)
     by-given (isEnd e) = rw e
     by-given (isNumber p q e) = rw (p, q) (same (eqb (narrowest x) 1) (eqb (narrowest x) 2))
 
-typeFor-narrowest : (e : Element) (x : ℕ) → typeFor e x ≤ narrowest x
+pub typeFor-narrowest : (e : Element) (x : ℕ) → typeFor e x ≤ narrowest x
 typeFor-narrowest Plain x = omega arith
 typeFor-narrowest Reserved x = omega arith
 typeFor-narrowest Missing x = narrowest-types x .0

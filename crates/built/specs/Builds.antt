@@ -7,8 +7,9 @@ use Rattle.fixed.specs.declared.Facts.{Facts}
 use Rattle.fixed.specs.declared.Site.{Site}
 use Rattle.genotypes.specs.declared.Gt.{Gt}
 use Rattle.record.specs.Reading.{reading}
-use Rattle.record.specs.Shown.{Shown, shownOf}
+use Rattle.record.specs.Shown.{Shown}
 use Rattle.record.specs.declared.Reading.the-variants.{Accepted}
+use Rattle.contents.specs.Contents.{shownOf}
 use Rattle.built.specs.Records.{All}
 use Rattle.built.specs.Runs.{Turn, turnsOf, gives, FitTurn, Finished}
 

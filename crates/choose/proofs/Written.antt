@@ -16,7 +16,7 @@ use Rattle.types.specs.Rows.{widthOf}
 use Rattle.types.specs.declared.Use.the-variants.{Format}
 use Rattle.fixed.specs.Layout.{indivAt, peopleAt, idAt, membersOf}
 use Rattle.fixed.specs.declared.Site.{Site}
-use Rattle.fetch.specs.Fetch.{paired}
+use Rattle.fetch.specs.Fields.{paired}
 use Rattle.fetch.specs.declared.Found.the-variants.{Field}
 use Rattle.fetched.proofs.Present.{paired-stop}
 use Rattle.stores.specs.Stores.{filled}

@@ -10,7 +10,7 @@ use Rattle.types.specs.Rows.{widthOf}
 use Rattle.types.specs.declared.Use.the-variants.{Format}
 use Rattle.fixed.specs.Layout.{indivAt, peopleAt, membersOf}
 use Rattle.fixed.specs.declared.Site.{Site}
-use Rattle.fetch.specs.Fetch.{paired}
+use Rattle.fetch.specs.Fields.{paired}
 use Rattle.fetch.specs.declared.Found.{Found}
 use Rattle.fetch.specs.declared.Found.the-variants.{Field, Refused}
 use Rattle.people.specs.Choice.{chosenParts}

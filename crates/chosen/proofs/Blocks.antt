@@ -18,7 +18,7 @@ use Rattle.vectors.specs.Sound.{sound}
 use Rattle.genotypes.specs.Formats.{formats, roleOf, gtNow, gtAt, noGt}
 use Rattle.genotypes.specs.declared.Gt.{Gt}
 use Rattle.genotypes.specs.declared.Genotypes.the-variants.{Sound}
-use Rattle.fetched.proofs.Inside.{drop-past}
+use Rattle.fetch.proofs.Inside.{drop-past}
 use Rattle.fetched.proofs.FormatFields.{JudgedField, format-there, formats-field}
 use Rattle.people.specs.Choice.{ascending, chosenParts}
 use Rattle.choose.specs.Chosen.{chosenFields}

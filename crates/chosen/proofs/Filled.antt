@@ -17,7 +17,7 @@ use Rattle.genotypes.specs.declared.Genotypes.the-variants.{Sound}
 use Rattle.record.specs.Reading.{reading, genotypesOf}
 use Rattle.record.specs.declared.Reading.the-variants.{Accepted}
 use Rattle.record.proofs.Accepted.{accepted, accepted-fits}
-use Rattle.fetch.specs.Fetch.{paired}
+use Rattle.fetch.specs.Fields.{paired}
 use Rattle.fetch.specs.declared.Found.the-variants.{Field}
 use Rattle.fetched.proofs.FormatFields.{formats-field}
 

@@ -44,7 +44,7 @@ vector-anywhere most t w at at′ e (x ∷ xs) h =
         by-most true g = let z = rw g at s in cc
         by-most false g = rw g (on false (rw g at s))
 
-both-sound : (a b : Judged) → andThen a b ≡ Sound → (a ≡ Sound) × (b ≡ Sound)
+pub both-sound : (a b : Judged) → andThen a b ≡ Sound → (a ≡ Sound) × (b ≡ Sound)
 both-sound Sound b h = (refl, h)
 both-sound (Unsound r) b h = let z : _≡_ {A = ℕ} 0 1 = cc in absurd (omega arith)
 

@@ -10,7 +10,7 @@ use lib.ListN.{length, take, drop, length-drop}
 use lib.Seq.{drop-drop, take-at, drop-at, length-take-le}
 use Rattle.types.specs.Rows.{widthOf}
 use Rattle.types.specs.declared.Use.the-variants.{Format}
-use Rattle.fetch.specs.Fetch.{paired}
+use Rattle.fetch.specs.Fields.{paired}
 use Rattle.fetch.specs.declared.Found.the-variants.{Field}
 use Rattle.people.specs.Choice.{ascending, chosenParts}
 use Rattle.people.proofs.Choice.{length-chosenParts}

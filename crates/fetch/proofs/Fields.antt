@@ -11,7 +11,8 @@ use Rattle.site.specs.Steps.{stepInside, then}
 use Rattle.site.specs.declared.Step.{Step}
 use Rattle.site.specs.declared.Step.the-variants.{At, Refused as NoStep}
 use Rattle.site.proofs.Turns.{times-turn}
-use Rattle.fetch.specs.Fetch.{valueField, fieldStep, passing, past, foundInside}
+use Rattle.fetch.specs.Fields.{valueField, foundInside}
+use Rattle.fetch.specs.Passing.{fieldStep, passing, past, orNone}
 use Rattle.fetch.specs.declared.Kind.{Kind}
 use Rattle.fetch.specs.declared.Found.{Found}
 use Rattle.fetch.specs.declared.Found.the-variants.{Field, Refused}
@@ -25,6 +26,11 @@ value-found key (Present t n first stop) at next end h i = (omega arith, i .1, i
 pub found-on : (f : Found) (at from end stop : ℕ) → from ≤ at → end ≤ stop → foundInside at end f → foundInside from stop f
 found-on (Refused r) at from end stop h e i = tt
 found-on (Field key t n place last) at from end stop h e i = (omega arith, i .1, omega arith)
+
+-- a field that stands whole, of a place on and before an end, if it is one
+pub none-inside : (f : Found) (at end stop : ℕ) → end ≤ stop → foundInside at end f → foundInside 0 stop (orNone f)
+none-inside (Refused r) at end stop e i = tt
+none-inside (Field key t n place last) at end stop e i = (omega arith, i .1, omega arith)
 
 pub found-step : (f : Found) (at end : ℕ) → foundInside at end f → stepInside at end (fieldStep f)
 found-step (Refused r) at end i = tt

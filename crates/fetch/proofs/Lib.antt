@@ -1,1 +1,3 @@
 pub mod Fields
+pub mod Inside
+pub mod Account

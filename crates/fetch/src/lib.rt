@@ -1,9 +1,14 @@
 // Fetching: one field of a record, by its kind and number from 0; where its elements stand, and the elements themselves.
 // The record is read first; then fields are passed by their descriptors alone. Rests on record, and on values for what is passed.
 ghost use mathlib.Core.Path.{_≡_};
-ghost use lib.ListN.{drop, length};
+ghost use Prim.Native.Nat.{_+_};
+ghost use lib.ListN.{length, take, drop};
+ghost use Rattle.values.specs.Answers.{refusal};
 ghost use Rattle.site.specs.Steps.{stepInside};
-ghost use Rattle.fetch.specs.Fetch.{valueField, keyRefused, stepRefused, fieldStep, alone, paired, fieldAt, past, toFilter, toInfo, toFirst, toField, fieldIn, isFormat, countOf, found, fetched, foundInside};
+ghost use Rattle.fetch.specs.Fields.{valueField, keyRefused, alone, paired, fieldAt, foundInside};
+ghost use Rattle.fetch.specs.Passing.{stepRefused, fieldStep, past, toFilter, toInfo, toFirst, toField, fieldIn, isFormat, countOf, orNone};
+ghost use Rattle.fetch.specs.Fetch.{fieldOf, found, partOf, startOf, fetched, fetchedAt};
+ghost use Rattle.fetch.specs.declared.Found.the-variants.{Refused as NoField};
 use fixed::Facts;
 use fixed::Site;
 use record::Reading;
@@ -163,7 +168,7 @@ fn to_filter(block: &[u8], from: usize, alleles: u32) -> Step
 }
 
 // Past ID, the alleles and FILTER.
-pub fn to_info(block: &[u8], from: usize, alleles: u32) -> Step
+fn to_info(block: &[u8], from: usize, alleles: u32) -> Step
     ensures { λ r. ⌜ r ≡ toInfo alleles from (drop from (now (block .entry))) ⌝ }
     ensures { λ r. ⌜ stepInside from (length (now (block .entry))) r ⌝ }
 {
@@ -238,6 +243,62 @@ fn count_of(kind: Kind, site: Site) -> u32
     }
 }
 
+// No field of that number.
+fn no_field() -> Found
+    ensures { λ r. ⌜ r ≡ NoField (refusal 16 0) ⌝ }
+{
+    Found::Refused(Refusal {
+        number: 16,
+        place: 0,
+    })
+}
+
+// A field that stands whole; else there is none.
+fn or_none(f: Found) -> Found
+    ensures { λ r. ⌜ r ≡ orNone f ⌝ }
+{
+    let Found::Field {
+        key: _,
+        code: _,
+        len: _,
+        place: _,
+        stop: _,
+    } = f
+    else {
+        return no_field();
+    };
+    f
+}
+
+// The bytes up to a place, as far as they are lent.
+fn up_to(s: &[u8], end: usize) -> &[u8]
+    ensures { λ r. ⌜ now r ≡ take end (now (s .entry)) ⌝ }
+    ensures { λ r. ⌜ r .ptr ≡ s .entry .ptr ⌝ }
+{
+    if s.len() < end {
+        return s;
+    }
+    &s[..end]
+}
+
+// The field of a kind and a number in a record that was read: its site is what reading told. With any other site the answer is still determined.
+pub fn field_of(s: &[u8], site: Site, kind: Kind, number: u32) -> Found
+    ensures { λ r. ⌜ r ≡ fieldOf kind number site (now (s .entry)) ⌝ }
+    ensures { λ r. ⌜ foundInside 0 (length (now (s .entry))) r ⌝ }
+{
+    if count_of(kind, site) <= number {
+        return no_field();
+    }
+    let border = site.border;
+    let length = site.length;
+    let people = site.people;
+    let alleles = site.alleles as u32;
+    if is_format(kind) {
+        return or_none(field_in(up_to(s, length), border, kind, people, alleles, number));
+    }
+    or_none(field_in(up_to(s, border), fixed::ID, kind, people, alleles, number))
+}
+
 // The field of a kind and a number in the record at the start of a slice.
 pub fn find(s: &[u8], facts: Facts, kind: Kind, number: u32) -> Found
     ensures { λ r. ⌜ r ≡ found facts kind number (now (s .entry)) ⌝ }
@@ -247,26 +308,15 @@ pub fn find(s: &[u8], facts: Facts, kind: Kind, number: u32) -> Found
     let Reading::Accepted { site, gt: _ } = r else {
         return Found::Refused(record::reading_refusal(r));
     };
-    if count_of(kind, site) <= number {
-        return Found::Refused(Refusal {
-            number: 16,
-            place: 0,
-        });
-    }
-    let border = site.border;
-    let length = site.length;
-    let alleles = site.alleles as u32;
-    if is_format(kind) {
-        return field_in(&s[..length], border, kind, facts.people, alleles, number);
-    }
-    field_in(&s[..border], fixed::ID, kind, facts.people, alleles, number)
+    field_of(s, site, kind, number)
 }
 
-// The elements of that field, as that part of the slice; on a refusal an empty part.
-pub fn fetch(s: &[u8], facts: Facts, kind: Kind, number: u32) -> &[u8]
-    ensures { λ r. ⌜ now r ≡ fetched facts kind number (now (s .entry)) ⌝ }
+// The elements of a field that lies in a slice, as that very part of it; of a refusal an empty part.
+fn part(s: &[u8], f: Found) -> &[u8]
+    requires { ⌜ foundInside 0 (length (now s)) f ⌝ }
+    ensures { λ r. ⌜ now r ≡ partOf (now (s .entry)) f ⌝ }
+    ensures { λ r. ⌜ r .ptr ≡ (s .entry .ptr .0, startOf f + s .entry .ptr .1) ⌝ }
 {
-    let f = find(s, facts, kind, number);
     let Found::Field {
         key: _,
         code: _,
@@ -275,7 +325,23 @@ pub fn fetch(s: &[u8], facts: Facts, kind: Kind, number: u32) -> &[u8]
         stop,
     } = f
     else {
-        return &s[..0];
+        return &s[0..0];
     };
     &s[place..stop]
+}
+
+// The elements of the field of a kind and a number, as that very part of the slice; on a refusal an empty part.
+pub fn fetch(s: &[u8], facts: Facts, kind: Kind, number: u32) -> &[u8]
+    ensures { λ r. ⌜ now r ≡ fetched facts kind number (now (s .entry)) ⌝ }
+    ensures { λ r. ⌜ r .ptr ≡ (s .entry .ptr .0, fetchedAt facts kind number (now (s .entry)) + s .entry .ptr .1) ⌝ }
+{
+    part(s, find(s, facts, kind, number))
+}
+
+// The same of a record that was read: its site is what reading told.
+pub fn part_of(s: &[u8], site: Site, kind: Kind, number: u32) -> &[u8]
+    ensures { λ r. ⌜ now r ≡ partOf (now (s .entry)) (fieldOf kind number site (now (s .entry))) ⌝ }
+    ensures { λ r. ⌜ r .ptr ≡ (s .entry .ptr .0, startOf (fieldOf kind number site (now (s .entry))) + s .entry .ptr .1) ⌝ }
+{
+    part(s, field_of(s, site, kind, number))
 }

@@ -14,12 +14,15 @@ use Rattle.site.specs.declared.Step.the-variants.{At}
 use Rattle.record.specs.Reading.{reading}
 use Rattle.record.specs.declared.Reading.the-variants.{Accepted}
 use Rattle.record.proofs.Accepted.{accepted}
-use Rattle.fetch.specs.Fetch.{fieldAt, fieldStep, passing, countOf, found, fetched, partOf, foundInside}
+use Rattle.fetch.specs.Fields.{fieldAt, foundInside}
+use Rattle.fetch.specs.Passing.{fieldStep, passing, countOf, blockFrom, blockEnd}
+use Rattle.fetch.specs.Fetch.{found, fetched, partOf}
 use Rattle.fetch.specs.declared.Kind.{Kind}
 use Rattle.fetch.specs.declared.Found.{Found}
 use Rattle.fetch.specs.declared.Found.the-variants.{Field, Refused}
-use Rattle.fetched.proofs.Inside.{field-inside}
-use Rattle.fetched.proofs.There.{judging, blockFrom, blockEnd, judged-passed, stands, found-in}
+use Rattle.fetch.proofs.Inside.{field-inside}
+use Rattle.fetched.specs.InTurn.{judging}
+use Rattle.fetched.proofs.There.{judged-passed, stands, found-in}
 
 -- a field's elements in a list that begins at a place, as reading takes them
 abbrev pub elementsIn : ℕ → List ℕ → Found → List ℕ

@@ -22,16 +22,17 @@ use Rattle.values.specs.declared.Descriptor.the-variants.{Typed, Refused as NoD
 use Rattle.values.specs.declared.Value.{Value}
 use Rattle.values.specs.declared.Value.the-variants.{Present, Refused as NoValue}
 use Rattle.vectors.specs.Sound.{sound}
-use Rattle.site.specs.Steps.{times, valueStep}
-use Rattle.site.specs.declared.Step.{Step}
-use Rattle.site.specs.declared.Step.the-variants.{At, Refused as NoStep}
+use Rattle.site.specs.Steps.{times}
+use Rattle.site.specs.declared.Step.the-variants.{At}
 use Rattle.genotypes.specs.Formats.{formats, afterKey, afterValue, noGenotypes, roleOf, gtNow, gtAt, Rest}
 use Rattle.genotypes.specs.declared.Gt.{Gt}
 use Rattle.genotypes.specs.declared.Genotypes.the-variants.{Sound}
-use Rattle.fetch.specs.Fetch.{valueField, afterKey as keyThen, paired, fieldStep, passing}
+use Rattle.fetch.specs.Fields.{valueField, afterKey as keyThen, paired}
+use Rattle.fetch.specs.Passing.{fieldStep, passing}
 use Rattle.fetch.specs.declared.Found.the-variants.{Field}
 use Rattle.fetch.specs.declared.Kind.the-variants.{Format}
-use Rattle.fetched.proofs.Inside.{keyed-inside, drop-past}
+use Rattle.fetch.proofs.Inside.{keyed-inside, drop-past}
+use Rattle.fetched.specs.InTurn.{formatValue, format}
 use Rattle.fetched.proofs.Agree.{sound-there, sound-past, value-passed}
 use Rattle.fetched.proofs.Present.{present-typed}
 
@@ -105,14 +106,7 @@ format-there people alleles key gt at l t n first stop h =
     same-elements people (at + length l) (described (pick (eqb key gt) GtUse FormatUse) at l) (described FormatUse at l)
     (role-described (eqb key gt) at l) (sound-there people alleles (roleOf key gt) at l t n first stop h)
 
--- reading's judgement of a FORMAT field, but for keys that stand twice
-abbrev pub formatValue : ℕ → ℕ → ℕ → ℕ → List ℕ → Integer → Step
-formatValue people gt alleles at l (NoInteger r) = NoStep r
-formatValue people gt alleles at l (One key next) = valueStep (sound people alleles (roleOf key gt) next (drop (next - at) l))
-
-unfoldable pub format : ℕ → ℕ → ℕ → ℕ → ℕ → List ℕ → Step
-format strings people gt alleles at l = formatValue people gt alleles at l (keyed strings at l)
-
+-- what reading judged of a FORMAT field is passed to the same place
 format-value : (strings people gt alleles at : ℕ) (l : List ℕ) (i : Integer) {q : ℕ}
     → formatValue people gt alleles at l (inDictionary strings at i) ≡ At q → fieldStep (keyThen people FormatUse at l i) ≡ At q
 format-value strings people gt alleles at l (NoInteger r) h = h

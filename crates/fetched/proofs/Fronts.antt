@@ -24,10 +24,10 @@ use Rattle.values.specs.declared.Descriptor.the-variants.{Typed}
 use Rattle.values.specs.declared.Value.the-variants.{Present}
 use Rattle.vectors.specs.Vectors.{numbers, shownNumbers}
 use Rattle.fixed.specs.Layout.{field}
-use Rattle.fetch.specs.Fetch.{paired}
+use Rattle.fetch.specs.Fields.{paired}
 use Rattle.fetch.specs.declared.Found.the-variants.{Field}
 use Rattle.fetched.proofs.Bytes.{part-of}
-use Rattle.fetched.proofs.Inside.{integer-inside}
+use Rattle.fetch.proofs.Inside.{integer-inside}
 use Rattle.fetched.proofs.Present.{present-typed, paired-keyed}
 
 -- the number at the front of a list is that of its bytes, whatever follows

@@ -1,7 +1,10 @@
 pub mod Agree
 pub mod Bytes
 pub mod FormatFields
+pub mod FormatsInTurn
 pub mod Fronts
-pub mod Inside
+pub mod InTurn
+pub mod Once
 pub mod Present
 pub mod There
+pub mod Turns

@@ -18,9 +18,9 @@ use Rattle.values.specs.declared.Descriptor.{Descriptor}
 use Rattle.values.specs.declared.Descriptor.the-variants.{Typed, Refused as NoDescriptor}
 use Rattle.values.specs.declared.Value.{Value}
 use Rattle.values.specs.declared.Value.the-variants.{Present, Refused as NoValue}
-use Rattle.fetch.specs.Fetch.{valueField, afterKey, paired}
+use Rattle.fetch.specs.Fields.{valueField, afterKey, paired}
 use Rattle.fetch.specs.declared.Found.the-variants.{Field}
-use Rattle.fetched.proofs.Inside.{integer-inside, present-inside}
+use Rattle.fetch.proofs.Inside.{integer-inside, present-inside}
 
 -- a value that is there: its descriptor, and where it ends
 pub record There (vectors : ℕ) (role : Use) (at : ℕ) (l : List ℕ) (t n first stop : ℕ) : Type 0 where

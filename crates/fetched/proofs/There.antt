@@ -5,17 +5,16 @@ use mathlib.Core.List.{List, [], _∷_}
 use Prim.Native.Nat.{ℕ, zero, suc, _-_, _<_, _≤_}
 use native.Mathlib.Nat.{sub-self}
 use native.Mathlib.Omega.{arith}
-use lib.ListN.{take, drop}
-use borrow.Author.Tests.{lt-leb}
-use Rattle.words.specs.Pick.{pick}
-use Rattle.types.specs.declared.Use.the-variants.{Id as IdUse}
+use lib.ListN.{drop}
+use borrow.Author.Tests.{le-leb, lt-leb}
+use Rattle.values.specs.Answers.{refusal}
 use Rattle.fixed.specs.Layout.{idAt}
 use Rattle.fixed.specs.declared.Facts.{Facts}
 use Rattle.fixed.specs.declared.Site.{Site}
+use Rattle.fixed.proofs.Fits.{people-given}
 use Rattle.genotypes.specs.Formats.{noGt}
 use Rattle.genotypes.specs.declared.Gt.{Gt}
-use Rattle.vectors.specs.Sound.{sound}
-use Rattle.site.specs.Steps.{ended, times, valueStep}
+use Rattle.site.specs.Steps.{ended, times}
 use Rattle.site.specs.Alleles.{allele}
 use Rattle.site.specs.Filters.{filter}
 use Rattle.site.specs.Site.{info, site}
@@ -23,21 +22,19 @@ use Rattle.site.specs.declared.Step.{Step}
 use Rattle.site.specs.declared.Step.the-variants.{At}
 use Rattle.record.specs.Reading.{reading, siteOf, genotypesOf}
 use Rattle.record.specs.declared.Reading.the-variants.{Accepted}
-use Rattle.record.proofs.Accepted.{Read}
-use Rattle.fetch.specs.Fetch.{isFormat, fieldAt, passing, past, toFilter, toInfo, toFirst, toField, fieldIn, fieldOf, countOf, found}
+use Rattle.record.proofs.Accepted.{Read, accepted, accepted-fits}
+use Rattle.fetch.specs.Fields.{fieldAt}
+use Rattle.fetch.specs.Passing.{fieldStep, passing, past, toFilter, toInfo, toFirst, toField, fieldIn, blockFrom, blockOf, countOf, orNone}
+use Rattle.fetch.specs.Fetch.{found}
 use Rattle.fetch.specs.declared.Kind.{Kind}
 use Rattle.fetch.specs.declared.Kind.the-variants.{Id, Allele, Filter, Info, Format}
-use Rattle.fetched.proofs.Inside.{passing-later, past-later, drop-past}
+use Rattle.fetch.specs.declared.Found.{Found}
+use Rattle.fetch.specs.declared.Found.the-variants.{Field, Refused}
+use Rattle.fetch.proofs.Account.{field-number}
+use Rattle.fetch.proofs.Inside.{passing-later, past-later, drop-past}
+use Rattle.fetched.specs.InTurn.{judging}
 use Rattle.fetched.proofs.Agree.{id-passed, allele-passed, filter-passed, info-passed, went, times-passed}
-use Rattle.fetched.proofs.FormatFields.{format, format-passed, formats-judged}
-
--- reading's judgement of one field of a kind; that no key of FORMAT stands twice is judged beside it
-abbrev pub judging : Facts → Site → Kind → ℕ → List ℕ → Step
-judging f t Id at l = valueStep (sound 1 0 IdUse at l)
-judging f t Allele at l = allele at l
-judging f t Filter at l = filter (f .strings) at l
-judging f t Info at l = info (f .strings) at l
-judging f t Format at l = format (f .strings) (f .people) (f .gt) (t .alleles) at l
+use Rattle.fetched.proofs.FormatFields.{format-passed, formats-judged}
 
 -- what reading judged is passed to the same place
 pub judged-passed : (f : Facts) (t : Site) (kind : Kind) (at : ℕ) (l : List ℕ) (q : ℕ) → judging f t kind at l ≡ At q
@@ -89,7 +86,7 @@ pub record Stands (f : Facts) (t : Site) (kind : Kind) (m at : ℕ) (l : List �
   pub field : fieldIn kind (f .people) (t .alleles) m at l ≡ fieldAt kind (f .people) place (drop (place - at) l)
   pub judged : judging f t kind place (drop (place - at) l) ≡ At stop
 
-judged-later : (f : Facts) (t : Site) (kind : Kind) (at : ℕ) (l : List ℕ) (q : ℕ) → judging f t kind at l ≡ At q → at ≤ q
+pub judged-later : (f : Facts) (t : Site) (kind : Kind) (at : ℕ) (l : List ℕ) (q : ℕ) → judging f t kind at l ≡ At q → at ≤ q
 judged-later f t kind at l q h =
     rw (judged-passed f t kind at l q h) at (passing-later kind (f .people) at l)
 
@@ -132,7 +129,7 @@ pub record Walk (f : Facts) (t : Site) (at : ℕ) (l : List ℕ) : Type 0 where
   pub noneOver : drop (last - infos) (drop (infos - at) l) ≡ []
 
 -- a block that is read to its last byte has no byte over
-ended-none : (at : ℕ) (l : List ℕ) {e : ℕ} → ended at l ≡ At e → l ≡ []
+pub ended-none : (at : ℕ) (l : List ℕ) {e : ℕ} → ended at l ≡ At e → l ≡ []
 ended-none at [] h = refl
 ended-none at (b ∷ rest) h = cc
 
@@ -184,16 +181,6 @@ once : (step : ℕ → List ℕ → Step) (at : ℕ) (l : List ℕ) {q : ℕ} �
 unfolding times
 once step at l h = rw h
 
--- where a kind's block begins and ends
-abbrev pub blockFrom : Kind → Site → ℕ
-blockFrom kind t = pick (isFormat kind) (t .border) idAt
-
-abbrev pub blockEnd : Kind → Site → ℕ
-blockEnd kind t = pick (isFormat kind) (t .length) (t .border)
-
-abbrev pub blockOf : Kind → Site → List ℕ → List ℕ
-blockOf kind t s = drop (blockFrom kind t) (take (blockEnd kind t) s)
-
 -- of an accepted record, the field of a kind and a number below its count is one that reading judged
 pub stands : (f : Facts) (kind : Kind) (number : ℕ) (t : Site) (g : Gt) (s : List ℕ) → Read f t g s → number < countOf kind t
     → Stands f t kind number (blockFrom kind t) (blockOf kind t s)
@@ -220,12 +207,25 @@ stands f Format number t g s r q =
     let e : times (judging f t Format) (t .formats) (t .border) (drop (t .border - t .border) l) ≡ At (w .end) = rw (sub-self (t .border)) (w .walked) in
     from-first f t Format number (t .formats) (t .border) l (t .border) refl (omega arith) e q
 
--- what is found is the field of its block
+-- what is found is the field of its block, and it stands there whole
+passed-whole : (r : Found) {q : ℕ} → fieldStep r ≡ At q → orNone r ≡ r
+passed-whole (Refused r) h = cc
+passed-whole (Field key t n place stop) h = refl
+
+pub accepted-people : (f : Facts) (s : List ℕ) (t : Site) (g : Gt) → reading f s ≡ Accepted t g → t .people ≡ f .people
+accepted-people f s t g h = people-given (f .people) (t .formats) (t .people) (accepted-fits f s t g h .peopleRight) .0
+
 pub found-in : (f : Facts) (kind : Kind) (number : ℕ) (s : List ℕ) (t : Site) (g : Gt) → reading f s ≡ Accepted t g → number < countOf kind t
     → found f kind number s ≡ fieldIn kind (f .people) (t .alleles) number (blockFrom kind t) (blockOf kind t s)
-unfolding found fieldOf
-found-in f Id number s t g h q = rw (h, lt-leb _ _ q)
-found-in f Allele number s t g h q = rw (h, lt-leb _ _ q)
-found-in f Filter number s t g h q = rw (h, lt-leb _ _ q)
-found-in f Info number s t g h q = rw (h, lt-leb _ _ q)
-found-in f Format number s t g h q = rw (h, lt-leb _ _ q)
+unfolding found passing
+found-in f kind number s t g h q =
+    let x = stands f kind number t g s (accepted f s t g h) q in
+    let l = drop (x .place - blockFrom kind t) (blockOf kind t s) in
+    let passed = judged-passed f t kind (x .place) l (x .stop) (x .judged) in
+    rw (h, field-number kind number t s, lt-leb _ _ q, accepted-people f s t g h, x .field) (passed-whole (fieldAt kind (f .people) (x .place) l) passed)
+
+-- a number that is no field's is refused with 16
+pub found-none : (f : Facts) (kind : Kind) (number : ℕ) (s : List ℕ) (t : Site) (g : Gt) → reading f s ≡ Accepted t g → countOf kind t ≤ number
+    → found f kind number s ≡ Refused (refusal 16 0)
+unfolding found
+found-none f kind number s t g h q = rw (h, field-number kind number t s, le-leb _ _ q)

@@ -13,13 +13,13 @@ use Rattle.fixed.specs.declared.Facts.{Facts}
 use Rattle.fixed.specs.declared.Site.{Site}
 use Rattle.genotypes.specs.declared.Gt.{Gt}
 use Rattle.record.specs.Reading.{reading}
-use Rattle.record.specs.Shown.{shownOf}
 use Rattle.record.specs.declared.Reading.the-variants.{Accepted}
 use Rattle.record.proofs.Accepted.{accepted-fits}
 use Rattle.fetch.specs.Fetch.{found}
 use Rattle.fetch.specs.declared.Kind.{Kind}
 use Rattle.fetch.specs.declared.Found.{Found}
 use Rattle.fetch.specs.declared.Found.the-variants.{Field, Refused}
+use Rattle.contents.specs.Contents.{shownOf}
 use Rattle.tally.specs.Tally.{nobody, callsOf, tallied}
 use Rattle.tally.specs.declared.Counting.the-variants.{Counted}
 use Rattle.built.specs.Builds.{Tight, Builds}
@@ -28,8 +28,9 @@ use Rattle.bare.specs.Ones.{withOnes}
 use Rattle.bare.proofs.Stand.{described-bare, refused-bare, refused-length, refused-integer}
 use Rattle.bare.proofs.Found.{found-empty, pair-empty, gt-empty}
 use Rattle.bare.proofs.Kept.{withOnes-kept}
-use Rattle.bare.proofs.Left.{typeOther, found-left}
-use Rattle.bare.proofs.Records.{lies, reads-ones, shownOf-ones}
+use Rattle.bare.proofs.Account.{typeOther, found-left}
+use Rattle.bare.proofs.Account.{shownOf-ones}
+use Rattle.bare.proofs.Records.{lies, reads-ones}
 use Rattle.bare.proofs.Tight.{tight-ones}
 use Rattle.laws.specs.Bare.{Bare}
 use Rattle.laws.specs.Choosing.{Accepts}

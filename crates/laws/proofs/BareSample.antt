@@ -1,4 +1,5 @@
 -- The sample record with a bare 00 for three of its values is computed. Rests on specs/BareSample and proofs/Sample.
+use mathlib.Core.List.{flatten}
 use mathlib.Core.Path.{_≡_, refl}
 use Prim.Native.Nat.{_≤_}
 use native.Mathlib.Omega.{arith}
@@ -18,8 +19,11 @@ use Rattle.site.specs.Filters.{filters, filtered, filter}
 use Rattle.site.specs.Site.{info, site}
 use Rattle.genotypes.specs.Formats.{roleOf, gtNow, formats}
 use Rattle.record.specs.Reading.{siteOf, genotypesOf, reading}
-use Rattle.record.specs.Shown.{elementsOf, pairsShown, fieldsShown, allelesThen, nothing, shownOf}
-use Rattle.fetch.specs.Fetch.{alone, paired, passing, past, toFilter, toInfo, toField, fieldIn, fieldOf, found, fetched}
+use Rattle.record.specs.Shown.{elementsOf}
+use Rattle.fetch.specs.Fields.{alone, paired}
+use Rattle.fetch.specs.Account.{fieldsOf, siteKinds, siteFields, genotypeFields, account, ofKind, numbered}
+use Rattle.fetch.specs.Fetch.{fieldOf, found, fetched}
+use Rattle.contents.specs.Contents.{elementsAt, shownOf}
 use Rattle.walker.specs.Walk.{pairIn, pairAt, opened}
 use Rattle.tally.specs.Tally.{callsOf, tallied}
 use Rattle.people.specs.Choice.{chosenParts}
@@ -33,7 +37,7 @@ use Rattle.rules.specs.Values.{givenNumber}
 use Rattle.built.specs.Records.{joined, siteBytes, genotypeBytes, filledFront, recordBytes, Keeps}
 use Rattle.built.specs.Builds.{Tight}
 use Rattle.built.proofs.Builds.{keeps-tight}
-use Rattle.bare.specs.Ones.{valueOne, pairOne, repeated, siteOnes, genotypeOnes, withOnes}
+use Rattle.bare.specs.Ones.{valueOne, pairOne, onesOf, withOnes}
 use Rattle.laws.specs.BareSample.{BareSample, bareSample, oneSample, bareSite, emptyShown}
 use Rattle.laws.specs.Sample.{facts}
 use Rattle.laws.proofs.Bare.{bare}
@@ -63,14 +67,14 @@ empty-keeps =
 
 -- with 01 in place of each 00 it is those bytes, and they are tight
 ones : withOnes bareSite bareSample ≡ oneSample
-unfolding bareSample oneSample le number rowOf widthOf marked kind widened shown integer trueLength mayStand described present valueOne pairOne repeated siteOnes genotypeOnes withOnes
+unfolding bareSample oneSample le number rowOf widthOf marked kind widened shown integer trueLength mayStand described present valueOne pairOne onesOf siteKinds withOnes
 ones = refl
 
 tight : Tight facts (withOnes bareSite bareSample)
 tight = rw (ones, ← empty-bytes) (keeps-tight facts emptyShown empty-keeps)
 
 pub bare-sample : BareSample
-unfolding bareSample among le number bytes outside rowOf widthOf marked kind widened shown integer trueLength keyed mayStand described present numbers shownNumbers vector vectors judged highest codeMost sound field posWrong peopleWrong qualWrong blocks wrongAt siteAt fixed times alleleBytes allele filters filtered filter info site roleOf gtNow formats siteOf genotypesOf reading elementsOf pairsShown fieldsShown allelesThen nothing shownOf alone paired passing past toFilter toInfo toField fieldIn fieldOf found fetched pairIn pairAt opened callsOf tallied chosenParts chosenFields chosenBlock chosenSite chosenRecord
+unfolding bareSample among le number bytes outside rowOf widthOf marked kind widened shown integer trueLength keyed mayStand described present numbers shownNumbers vector vectors judged highest codeMost sound field posWrong peopleWrong qualWrong blocks wrongAt siteAt fixed times alleleBytes allele filters filtered filter info site roleOf gtNow formats siteOf genotypesOf reading elementsOf flatten elementsAt shownOf alone paired fieldsOf siteKinds siteFields genotypeFields account ofKind numbered fieldOf found fetched pairIn pairAt opened callsOf tallied chosenParts chosenFields chosenBlock chosenSite chosenRecord
 bare-sample =
     record {
       read = refl;

@@ -1,6 +1,6 @@
 -- The sample record is computed. Rests on specs/Sample.
 use mathlib.Core.Path.{_≡_, refl}
-use mathlib.Core.List.{List, []}
+use mathlib.Core.List.{List, [], flatten}
 use Prim.Native.Nat.{ℕ, _≤_}
 use native.Mathlib.Omega.{arith}
 use lib.ListN.{length}
@@ -19,7 +19,10 @@ use Rattle.site.specs.Filters.{filters, filtered, filter}
 use Rattle.site.specs.Site.{info, site}
 use Rattle.genotypes.specs.Formats.{roleOf, gtNow, formats}
 use Rattle.record.specs.Reading.{siteOf, genotypesOf, reading}
-use Rattle.record.specs.Shown.{Pair, Field, integers, elementsOf, pairsShown, fieldsShown, allelesThen, nothing, shownOf}
+use Rattle.record.specs.Shown.{Pair, Field, integers, elementsOf}
+use Rattle.fetch.specs.Fields.{alone, paired}
+use Rattle.fetch.specs.Account.{fieldsOf, siteKinds, siteFields, genotypeFields, account, ofKind}
+use Rattle.contents.specs.Contents.{elementsAt, shownOf}
 use Rattle.calls.specs.Calls.{slots, alleleOf, alleles, people, called, without, howMany, counters, tally, peopleOf, counted}
 use Rattle.tally.specs.Tally.{callsOf, tallied}
 use Rattle.decimal.specs.Decimal.{written, decimal}
@@ -101,5 +104,5 @@ sample-keeps =
     short = omega arith
 
 pub sample-read : Sample
-unfolding sample among le number outside rowOf widthOf marked kind widened shown integer trueLength keyed mayStand described present numbers shownNumbers vector vectors judged highest codeMost sound field posWrong peopleWrong qualWrong blocks wrongAt siteAt fixed times alleleBytes allele filters filtered filter info site roleOf gtNow formats siteOf genotypesOf reading elementsOf pairsShown fieldsShown allelesThen nothing shownOf slots alleleOf alleles people called without howMany counters tally peopleOf counted callsOf tallied written decimal spaced callNumbers acceptedLine recordLine
+unfolding sample among le number outside rowOf widthOf marked kind widened shown integer trueLength keyed mayStand described present numbers shownNumbers vector vectors judged highest codeMost sound field posWrong peopleWrong qualWrong blocks wrongAt siteAt fixed times alleleBytes allele filters filtered filter info site roleOf gtNow formats siteOf genotypesOf reading elementsOf flatten elementsAt alone paired fieldsOf siteKinds siteFields genotypeFields account ofKind shownOf slots alleleOf alleles people called without howMany counters tally peopleOf counted callsOf tallied written decimal spaced callNumbers acceptedLine recordLine
 sample-read = record { read = refl; shows = refl; built = sample-bytes; tight = rw sample-bytes at (keeps-tight facts sampleShown sample-keeps); tally = refl; line = refl }

@@ -14,11 +14,11 @@ use Rattle.fixed.specs.declared.Facts.{Facts}
 use Rattle.fixed.specs.declared.Site.{Site}
 use Rattle.genotypes.specs.declared.Gt.{Gt}
 use Rattle.record.specs.Reading.{reading}
-use Rattle.record.specs.Shown.{shownOf}
 use Rattle.record.specs.declared.Reading.the-variants.{Accepted}
 use Rattle.fetch.specs.Fetch.{found, fetched}
 use Rattle.fetch.specs.declared.Kind.{Kind}
 use Rattle.fetch.specs.declared.Found.the-variants.{Field}
+use Rattle.contents.specs.Contents.{shownOf}
 use Rattle.walker.specs.Walk.{pairAt}
 use Rattle.walker.specs.declared.Pair.the-variants.{Found}
 use Rattle.tally.specs.Tally.{nobody, tallied}

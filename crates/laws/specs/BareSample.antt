@@ -7,11 +7,12 @@ use lib.ListN.{replicate}
 use Rattle.fixed.specs.declared.Site.{Site}
 use Rattle.genotypes.specs.Formats.{gtAt}
 use Rattle.record.specs.Reading.{reading}
-use Rattle.record.specs.Shown.{Shown, integers, shownOf}
+use Rattle.record.specs.Shown.{Shown, integers}
 use Rattle.record.specs.declared.Reading.the-variants.{Accepted}
 use Rattle.fetch.specs.Fetch.{found, fetched}
 use Rattle.fetch.specs.declared.Kind.the-variants.{Filter, Info, Format}
 use Rattle.fetch.specs.declared.Found.the-variants.{Field}
+use Rattle.contents.specs.Contents.{shownOf}
 use Rattle.walker.specs.Walk.{pairAt, opened}
 use Rattle.walker.specs.declared.Opening.the-variants.{First}
 use Rattle.walker.specs.declared.Pair.the-variants.{Found, End}

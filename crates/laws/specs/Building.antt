@@ -11,8 +11,9 @@ use Rattle.fixed.specs.declared.Facts.{Facts}
 use Rattle.fixed.specs.declared.Site.{Site}
 use Rattle.genotypes.specs.declared.Gt.{Gt}
 use Rattle.record.specs.Reading.{reading}
-use Rattle.record.specs.Shown.{Kind, Shown, shownOf}
+use Rattle.record.specs.Shown.{Kind, Shown}
 use Rattle.record.specs.declared.Reading.the-variants.{Accepted}
+use Rattle.contents.specs.Contents.{shownOf}
 use Rattle.encode.specs.Encode.{typeFor}
 use Rattle.append.specs.Values.{writtenAs}
 use Rattle.built.specs.Records.{recordBytes, All, Fit, Keeps}

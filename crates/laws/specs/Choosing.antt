@@ -11,8 +11,8 @@ use Rattle.fixed.specs.declared.Facts.{Facts}
 use Rattle.fixed.specs.declared.Site.{Site}
 use Rattle.genotypes.specs.declared.Gt.{Gt}
 use Rattle.record.specs.Reading.{reading}
-use Rattle.record.specs.Shown.{shownOf}
 use Rattle.record.specs.declared.Reading.the-variants.{Accepted}
+use Rattle.contents.specs.Contents.{shownOf}
 use Rattle.calls.specs.Totals.{together}
 use Rattle.tally.specs.Tally.{tallied}
 use Rattle.tally.specs.declared.Counting.the-variants.{Counted}

@@ -8,8 +8,9 @@ use Rattle.fixed.specs.declared.Facts.{Facts}
 use Rattle.fixed.specs.declared.Site.{Site}
 use Rattle.genotypes.specs.Formats.{gtAt}
 use Rattle.record.specs.Reading.{reading}
-use Rattle.record.specs.Shown.{Shown, Pair, Field, shownOf, integers}
+use Rattle.record.specs.Shown.{Shown, Pair, Field, integers}
 use Rattle.record.specs.declared.Reading.the-variants.{Accepted}
+use Rattle.contents.specs.Contents.{shownOf}
 use Rattle.tally.specs.Tally.{tallied}
 use Rattle.tally.specs.declared.Counting.the-variants.{Counted}
 use Rattle.frames.specs.Frames.{recordLine}

@@ -1,18 +1,17 @@
 -- A walker yields the pairs that fetching numbers, in order. Rests on specs/Walk and on fetching's definitions.
 use mathlib.Core.Path.{_≡_, refl, sym, _∙_, ap}
 use mathlib.Core.List.{List, []}
+use mathlib.Core.Bool.{Bool, true, false}
 use Prim.Native.Nat.{ℕ, zero, suc, _+_, _-_, _≤_, _<_}
+use native.Mathlib.Nat.{zero-add, suc-add}
 use native.Mathlib.Omega.{arith}
+use lib.Dec.{ltb}
 use lib.ListN.{length, take, drop}
-use borrow.Author.Tests.{le-ltb, lt-leb}
+use borrow.Author.Tests.{le-ltb, ltb-true, ltb-false}
 use Rattle.words.specs.Words.{number}
 use Rattle.words.proofs.Places.{drop-on}
-use Rattle.types.specs.declared.Use.the-variants.{Key, Info}
-use Rattle.values.specs.Values.{integer, present}
-use Rattle.values.specs.declared.Integer.{Integer}
-use Rattle.values.specs.declared.Integer.the-variants.{One, Refused as NoInteger}
-use Rattle.values.specs.declared.Value.{Value}
-use Rattle.values.specs.declared.Value.the-variants.{Present, Refused as NoValue}
+use Rattle.types.specs.declared.Use.the-variants.{Info}
+use Rattle.values.specs.Values.{integer}
 use Rattle.fixed.specs.Layout.{idAt, field}
 use Rattle.fixed.specs.declared.Facts.{Facts}
 use Rattle.fixed.specs.declared.Site.{Site}
@@ -25,29 +24,24 @@ use Rattle.record.specs.Reading.{reading, siteOf}
 use Rattle.record.specs.declared.Reading.the-variants.{Accepted}
 use Rattle.record.proofs.Accepted.{accepted, accepted-fits}
 use Rattle.fetched.proofs.Agree.{went, times-passed, info-passed}
-use Rattle.fetched.proofs.Inside.{passing-later, past-later}
-use Rattle.fetched.proofs.There.{site-walk}
-use Rattle.fetch.specs.Fetch.{valueField, afterKey, paired, fieldStep, passing, past, toInfo, toField, fieldIn, fieldOf, found}
-use Rattle.fetch.specs.declared.Kind.the-variants.{Info as InfoKind}
+use Rattle.fetch.proofs.Inside.{passing-later, past-later}
+use Rattle.fetched.proofs.There.{judged-passed, Walk, site-walk, found-in, found-none}
+use Rattle.fetch.specs.Fields.{paired, fieldAt}
+use Rattle.fetch.specs.Passing.{fieldStep, passing, past, toInfo, toField, fieldIn}
+use Rattle.fetch.specs.Account.{account, ofKind, numbered}
+use Rattle.fetch.specs.Fetch.{fieldOf, found}
+use Rattle.fetch.specs.declared.Kind.the-variants.{Filter, Info as InfoKind}
 use Rattle.fetch.specs.declared.Found.{Found as Fetched}
 use Rattle.fetch.specs.declared.Found.the-variants.{Field, Refused as NoField}
-use Rattle.walker.specs.Walk.{withValue, withKey, pairIn, pairAt, afterPair, nextAt, walkedTo, asPair, opened}
+use Rattle.walker.specs.Walk.{asPair, pairIn, pairAt, afterPair, nextAt, walkedTo, afterFilter, opened}
 use Rattle.walker.specs.declared.Opening.the-variants.{First}
 use Rattle.walker.specs.declared.Pair.{Pair}
 use Rattle.walker.specs.declared.Pair.the-variants.{End}
 
 -- a pair is the field that fetching finds there
-value-pair : (key : ℕ) (v : Value) → withValue key v ≡ asPair (valueField key v)
-value-pair key (NoValue r) = refl
-value-pair key (Present t n first stop) = refl
-
-key-pair : (at : ℕ) (l : List ℕ) (i : Integer) → withKey at l i ≡ asPair (afterKey 1 Info at l i)
-key-pair at l (NoInteger r) = refl
-key-pair at l (One key next) = value-pair key (present 1 Info next (drop (next - at) l))
-
 pub pair-field : (at : ℕ) (l : List ℕ) → pairIn at l ≡ asPair (paired 1 Info at l)
-unfolding pairIn paired
-pair-field at l = key-pair at l (integer Key at l)
+unfolding pairIn
+pair-field at l = refl
 
 -- in a record whose site block is all lent
 pub pair-lent : (s : List ℕ) (at : ℕ) → 8 ≤ length s → 8 + number 4 s ≤ length s
@@ -107,11 +101,30 @@ found-at : (f : Facts) (s : List ℕ) (t : Site) (g : Gt) (q n r : ℕ) → read
     → toInfo (t .alleles) idAt (drop idAt (take (t .border) s)) ≡ At q → idAt ≤ q
     → past InfoKind (f .people) n q (drop q (take (t .border) s)) ≡ At r → q ≤ r
     → found f InfoKind n s ≡ paired 1 Info r (drop r (take (t .border) s))
-unfolding found fieldOf fieldIn toField
+unfolding fieldIn toField
 found-at f s t g q n r h i a b p c =
     let block = take (t .border) s in
     let d : idAt ≤ r = omega arith in
-    rw (h, lt-leb _ _ i, a, drop-on block idAt q b, p, drop-on block idAt r d)
+    found-in f InfoKind n s t g h i ∙ rw (a, drop-on block idAt q b, p, drop-on block idAt r d)
+
+-- opening leads to where FILTER ends
+step-after : (border : ℕ) (f : Fetched) {q : ℕ} → fieldStep f ≡ At q → afterFilter border f ≡ First q
+step-after border (NoField r) h = cc
+step-after border (Field key t n place stop) h = let e = same h in rw e
+  where
+    same : {x y : ℕ} → At x ≡ At y → x ≡ y
+    same e = cc
+
+pub opened-first : (f : Facts) (s : List ℕ) (t : Site) (g : Gt) → reading f s ≡ Accepted t g
+    → (w : Walk f t idAt (drop idAt (take (t .border) s))) → opened f s ≡ First (w .infos)
+unfolding opened found fieldIn toField past times passing
+opened-first f s t g h w =
+    let l = drop idAt (take (t .border) s) in
+    let there : fieldOf Filter 0 t s ≡ fieldAt Filter (f .people) (w .filters) (drop (w .filters - idAt) l) =
+    rw h at (found-in f Filter 0 s t g h (omega arith)) ∙ rw (w .toFilters) in
+    rw (h, there)
+    (step-after (t .border) (fieldAt Filter (f .people) (w .filters) (drop (w .filters - idAt) l))
+    (judged-passed f t Filter (w .filters) (drop (w .filters - idAt) l) (w .infos) (w .filterJudged)))
 
 -- an accepted record's pairs: where they begin, that they are passed, and that nothing is over after the last
 record Pairs (f : Facts) (t : Site) (s : List ℕ) (q : ℕ) : Type 0 where
@@ -122,12 +135,12 @@ record Pairs (f : Facts) (t : Site) (s : List ℕ) (q : ℕ) : Type 0 where
   over : drop last (take (t .border) s) ≡ []
 
 pairs-of : (f : Facts) (s : List ℕ) (t : Site) (g : Gt) (q : ℕ) → reading f s ≡ Accepted t g → opened f s ≡ First q → Pairs f t s q
-unfolding opened siteOf past
+unfolding siteOf past
 pairs-of f s t g q h o =
     let block = take (t .border) s in
     let l = drop idAt block in
     let w = site-walk f t idAt l (accepted f s t g h .block) in
-    let k : w .infos ≡ q = same (rw (h, w .toInfos) at o) in
+    let k : w .infos ≡ q = same (sym (opened-first f s t g h w) ∙ o) in
     let p = times-passed (info (f .strings)) (passing InfoKind (f .people)) (info-passed (f .strings) (f .people)) (t .infos) (w .infos) (drop (w .infos - idAt) l) (w .infosJudged) in
     let x = rw (drop-on block idAt (w .infos) (w .infosLater)) at p in
     let c : w .infos ≤ w .last = rw x at (past-later InfoKind (f .people) (t .infos) (w .infos) (drop (w .infos) block)) in
@@ -164,3 +177,29 @@ walk-ends f s t g q h o =
     ∙ pair-lent s (w .last) (z .some) (z .lent)
     ∙ ap (λ (e : ℕ). asPair (paired 1 Info (w .last) (drop (w .last) (take e s)))) (sym (z .border))
     ∙ ap (λ (l : List ℕ). asPair (paired 1 Info (w .last) l)) (w .over)
+
+-- at the end it stays
+walked-on : (s : List ℕ) (n m at : ℕ) → walkedTo s (n + m) at ≡ walkedTo s m (walkedTo s n at)
+unfolding walkedTo
+walked-on s zero m at = rw (zero-add m)
+walked-on s (suc n) m at = rw (suc-add n m) (walked-on s n m (nextAt s at))
+
+walked-stays : (s : List ℕ) (n at : ℕ) → pairAt s at ≡ End → walkedTo s n at ≡ at
+unfolding walkedTo
+walked-stays s zero at h = refl
+walked-stays s (suc n) at h = rw h (walked-stays s n at h)
+
+-- so the n-th pair that a walk yields is the n-th INFO field of the account, for every n; and where there is none, the end
+pub walk-account : (f : Facts) (s : List ℕ) (t : Site) (g : Gt) (q n : ℕ) → reading f s ≡ Accepted t g → opened f s ≡ First q
+    → pairAt s (walkedTo s n q) ≡ asPair (numbered n (ofKind InfoKind (account t s)))
+unfolding fieldOf found
+walk-account f s t g q n h o = by-count (ltb n (t .infos)) refl
+  where
+    by-count : (b : Bool) → ltb n (t .infos) ≡ b → pairAt s (walkedTo s n q) ≡ asPair (numbered n (ofKind InfoKind (account t s)))
+    by-count true i = rw h at (walk-finds f s t g q n h o (ltb-true n (t .infos) i))
+    by-count false i =
+        let k = ltb-false n (t .infos) i in
+        let e : t .infos + (n - t .infos) ≡ n = omega arith in
+        let last = walk-ends f s t g q h o in
+        let there = walked-on s (t .infos) (n - t .infos) q ∙ walked-stays s (n - t .infos) (walkedTo s (t .infos) q) last in
+        ap (pairAt s) (rw e at there) ∙ last ∙ ap asPair (sym (rw h at (found-none f InfoKind n s t g h k)))

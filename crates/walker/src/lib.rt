@@ -1,15 +1,13 @@
 // The INFO walker: it holds the lent record and the place of the next INFO pair, and yields the pairs one after the other.
-// The functions over the struct are thin; the work is done by `pair_at` on the slice and a number. Rests on values, and on fetch for opening.
+// The functions over the struct are thin; the work is done by `pair_at` on the slice and a number. Rests on fetch, for a field at a place and for opening.
 ghost use mathlib.Core.Path.{_≡_};
 ghost use lib.ListN.{drop};
-ghost use Rattle.walker.specs.Walk.{pairAt, pairIn, afterPair, nextAt, opened, walker, movedOn, advanced};
+ghost use Rattle.walker.specs.Walk.{asPair, pairAt, pairIn, afterPair, nextAt, afterFilter, opened, walker, movedOn, advanced};
+use fetch::Found;
+use fetch::Kind;
 use fixed::Facts;
 use record::Reading;
-use site::Step;
-use types::Use;
-use values::Integer;
 use values::Refusal;
-use values::Value;
 
 pub struct Walker<'a> {
     pub bytes: &'a [u8],
@@ -34,31 +32,33 @@ pub enum Opening {
     Refused(Refusal),
 }
 
+// A field as a pair; where none stands whole, the end.
+fn as_pair(f: Found) -> Pair
+    ensures { λ r. ⌜ r ≡ asPair f ⌝ }
+{
+    match f {
+        Found::Field {
+            key,
+            code,
+            len,
+            place,
+            stop,
+        } => Pair::Found {
+            key,
+            code,
+            len,
+            place,
+            next: stop,
+        },
+        Found::Refused(_) => Pair::End,
+    }
+}
+
 // The pair at a place of a site block that is lent up to its end.
 fn pair_in(block: &[u8], at: usize) -> Pair
     ensures { λ r. ⌜ r ≡ pairIn at (drop at (now (block .entry))) ⌝ }
 {
-    let k = values::integer_at(block, at, Use::Key);
-    let Integer::One { bits, next } = k else {
-        return Pair::End;
-    };
-    let v = values::value_at(block, next, Use::Info, 1);
-    let Value::Present {
-        code,
-        len,
-        first,
-        stop,
-    } = v
-    else {
-        return Pair::End;
-    };
-    Pair::Found {
-        key: bits,
-        code,
-        len,
-        place: first,
-        next: stop,
-    }
+    as_pair(fetch::field_at(block, at, Kind::Info, 1))
 }
 
 // The pair at a place of a record: the end where its site block is not all lent.
@@ -98,6 +98,22 @@ pub fn next_at(s: &[u8], at: usize) -> usize
     after(pair_at(s, at), at)
 }
 
+// The place where FILTER ends; the end of the block where there is none.
+fn after_filter(border: usize, f: Found) -> Opening
+    ensures { λ r. ⌜ r ≡ afterFilter border f ⌝ }
+{
+    match f {
+        Found::Field {
+            key: _,
+            code: _,
+            len: _,
+            place: _,
+            stop,
+        } => Opening::First(stop),
+        Found::Refused(_) => Opening::First(border),
+    }
+}
+
 // The place where a walker over a record starts, or reading's refusal. `new` makes the walker of it.
 pub fn opening_of(s: &[u8], facts: Facts) -> Opening
     ensures { λ r. ⌜ r ≡ opened facts (now (s .entry)) ⌝ }
@@ -106,12 +122,7 @@ pub fn opening_of(s: &[u8], facts: Facts) -> Opening
     let Reading::Accepted { site, gt: _ } = r else {
         return Opening::Refused(record::reading_refusal(r));
     };
-    let border = site.border;
-    let p = fetch::to_info(&s[..border], fixed::ID, site.alleles as u32);
-    let Step::At(at) = p else {
-        return Opening::First(border);
-    };
-    Opening::First(at)
+    after_filter(site.border, fetch::field_of(s, site, Kind::Filter, 0))
 }
 
 // The walker of a lent record that stands at a place.

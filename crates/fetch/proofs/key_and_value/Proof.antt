@@ -2,7 +2,7 @@
 use native.Mathlib.Omega.{arith}
 use lib.ListN.{length}
 use Rattle.words.proofs.Places.{drop-on}
-use Rattle.fetch.specs.Fetch.{paired}
+use Rattle.fetch.specs.Fields.{paired}
 use Rattle.fetch.proofs.Fields.{value-found}
 use borrow.Author.Needs.{needs}
 use Rattle.fetch.proofs.key_and_value.Statement.{statement}

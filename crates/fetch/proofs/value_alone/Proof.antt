@@ -1,7 +1,7 @@
 -- `fetch::value_alone` meets its contract.
 use native.Mathlib.Omega.{arith}
 use lib.ListN.{length}
-use Rattle.fetch.specs.Fetch.{alone}
+use Rattle.fetch.specs.Fields.{alone}
 use Rattle.fetch.proofs.Fields.{value-found}
 use borrow.Author.Needs.{needs}
 use Rattle.fetch.proofs.value_alone.Statement.{statement}

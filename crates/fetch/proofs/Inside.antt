@@ -23,12 +23,13 @@ use Rattle.values.specs.declared.Descriptor.the-variants.{Typed, Refused as NoD
 use Rattle.site.specs.Steps.{then, times}
 use Rattle.site.specs.declared.Step.{Step}
 use Rattle.site.specs.declared.Step.the-variants.{At, Refused as NoStep}
-use Rattle.fetch.specs.Fetch.{valueField, afterKey, alone, paired, fieldAt, fieldStep, passing, past, foundInside}
+use Rattle.fetch.specs.Fields.{valueField, afterKey, alone, paired, fieldAt, foundInside}
+use Rattle.fetch.specs.Passing.{fieldStep, passing, past}
 use Rattle.fetch.specs.declared.Found.{Found}
 use Rattle.fetch.specs.declared.Found.the-variants.{Field, Refused}
 use Rattle.fetch.proofs.Fields.{value-found, found-on}
 use Rattle.fetch.specs.declared.Kind.{Kind}
 use Rattle.fetch.specs.declared.Kind.the-variants.{Id, Allele, Filter, Info, Format}
 
 -- what holds of both branches of a test, whichever the test says
 tested : {A : Type 0} (P : A → Type 0) (b : Bool) (x y : A) → (b ≡ true → P x) → (b ≡ false → P y) → P (pick b x y)
@@ -126,7 +127,7 @@ later-on : (at q : ℕ) (p : Step) → at ≤ q → stepLater q p → stepLater 
 later-on at q (NoStep r) h k = tt
 later-on at q (At e) h k = omega arith
 
-then-later : (at : ℕ) (l : List ℕ) (p : Step) (next : ℕ → List ℕ → Step) → stepLater at p → ((q : ℕ) (m : List ℕ) → stepLater q (next q m))
+pub then-later : (at : ℕ) (l : List ℕ) (p : Step) (next : ℕ → List ℕ → Step) → stepLater at p → ((q : ℕ) (m : List ℕ) → stepLater q (next q m))
     → stepLater at (then at l p next)
 then-later at l (NoStep r) next h k = tt
 then-later at l (At q) next h k = later-on at q (next q (drop (q - at) l)) h (k q (drop (q - at) l))

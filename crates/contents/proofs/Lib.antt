@@ -1,0 +1,5 @@
+pub mod Bare
+pub mod Blocks
+pub mod Counts
+pub mod Elements
+pub mod Fetched
