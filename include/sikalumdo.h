@@ -1,13 +1,18 @@
 /*
  * Sikalumdo for C and C++: reads one uncompressed BCF2 record at a time, fetches its values, walks its INFO pairs,
- * tallies its genotypes, chooses people, and builds a record turn by turn. Link libc_api.a.
+ * tallies its genotypes, chooses people, and builds a record turn by turn. Link libc_api.a. A loader reads a record
+ * once and then fetches by the numbers that reading told:
  *
- *     uint64_t site[SIKALUMDO_SITE_NUMBERS];
+ *     uint64_t site[SIKALUMDO_SITE_NUMBERS], field[SIKALUMDO_FIELD_NUMBERS];
  *     uint64_t answer = sikalumdo_read(bytes, count, 4, 1, 2, 3, site, SIKALUMDO_SITE_NUMBERS);
- *     if (sikalumdo_number(answer) != 0)
+ *     if (sikalumdo_number(answer) != 0) {
  *         printf("refused: %u at byte %u\n", (unsigned)sikalumdo_number(answer), (unsigned)sikalumdo_low(answer));
- *     else
+ *     } else {
  *         printf("%u bytes, %u alleles\n", (unsigned)sikalumdo_low(answer), (unsigned)site[SIKALUMDO_SITE_ALLELES]);
+ *         answer = sikalumdo_field_of(bytes, count, site, SIKALUMDO_SITE_NUMBERS, SIKALUMDO_KIND_ALLELE, 0, field,
+ *                                     SIKALUMDO_FIELD_NUMBERS);
+ *         printf("REF %.*s\n", (int)sikalumdo_low(answer), (const char *)bytes + field[SIKALUMDO_FIELD_PLACE]);
+ *     }
  *
  * THE FACTS. Four numbers of the file's header go with a record: `strings`, the size of its dictionary; `contigs`;
  * `people`; and `gt`, the dictionary offset of GT (one that no key meets, as 0xFFFFFFFF, says that there is no GT).
@@ -88,7 +93,7 @@ extern "C" {
 #define SIKALUMDO_SITE_GT_LENGTH 11 /* elements for each person */
 #define SIKALUMDO_SITE_GT_PLACE 12 /* place of the first element; just after the descriptor for length 0 */
 
-/* Where each number stands in what sikalumdo_fetch and sikalumdo_pair tell. */
+/* Where each number stands in what sikalumdo_fetch, sikalumdo_field_of and sikalumdo_pair tell. */
 #define SIKALUMDO_FIELD_KEY 0      /* dictionary offset; 0 for ID, alleles and FILTER, which have none */
 #define SIKALUMDO_FIELD_TYPE 1
 #define SIKALUMDO_FIELD_LENGTH 2   /* elements; of a FORMAT value, elements for each person */
@@ -147,6 +152,21 @@ uint64_t sikalumdo_read(const uint8_t *s, size_t s_len, uint32_t strings, uint32
  */
 uint64_t sikalumdo_fetch(const uint8_t *s, size_t s_len, uint32_t strings, uint32_t contigs, uint32_t people,
                          uint32_t gt, uint32_t kind, uint32_t number, uint64_t *out, size_t out_len);
+
+/*
+ * Fetches from a record that was read: `s` begins with the very bytes of that record, and `site` holds the
+ * SIKALUMDO_SITE_NUMBERS numbers that sikalumdo_read told of it. The record is not read or judged again, so that a
+ * fetch costs the way to its field and no more.
+ * Answers as sikalumdo_fetch does. Refusals: 16 where there is no such field, or no such kind; then 13 where out_len
+ * is below SIKALUMDO_FIELD_NUMBERS. Reading's are not given here.
+ * With any other numbers, or other bytes, the answer is still determined and its places lie in `s`: the field that
+ * stands whole where those numbers lead, or 16; fewer than SIKALUMDO_SITE_NUMBERS lead nowhere (16). What is read of
+ * `site` is SIKALUMDO_SITE_LENGTH, _BORDER, _ALLELES, _INFOS, _FORMATS and _PEOPLE, the counts in as many bits as a
+ * record has for alleles (16), INFO fields (16) and FORMAT fields (8), and people in 32.
+ * Writes SIKALUMDO_FIELD_NUMBERS numbers at the start of `out`.
+ */
+uint64_t sikalumdo_field_of(const uint8_t *s, size_t s_len, const uint64_t *site, size_t site_len, uint32_t kind,
+                            uint32_t number, uint64_t *out, size_t out_len);
 
 /*
  * Shows an element, from 0, of a fetched part: `part` points at the field's place and has the bytes that the fetch

@@ -1,5 +1,6 @@
-"""Runs the vectors of tests/vectors through the library that tools/host compiles: reading, fetching, walking, tallying, choosing and
-building, each answer and each lent buffer whole. The vectors come from an implementation that shares nothing with this one.
+"""Runs the vectors of tests/vectors through the library that tools/host compiles: reading, fetching (at once, and from a record that was
+read), walking, tallying, choosing and building, each answer and each lent buffer whole. The vectors come from an implementation that
+shares nothing with this one.
 
     tests/vectors.sh
 """
@@ -52,12 +53,26 @@ def read(case, record):
     return told(answer, lambda: site)
 
 
+def fetched(record, answer, out):
+    part = record[out[3]:out[4]] if answer >> 32 == 0 else b""
+    return {"answer": told(answer, lambda: {"type": out[1], "length": out[2], "place": out[3]}), "part": part.hex()}
+
+
 def fetch(case, record):
     out = (ctypes.c_uint64 * 5)()
     kind = KINDS.index(case["kind"].upper())
     answer = library.sikalumdo_fetch(record, len(record), *case["facts"], kind, case["number"], out, 5)
-    part = record[out[3]:out[4]] if answer >> 32 == 0 else b""
-    return {"answer": told(answer, lambda: {"type": out[1], "length": out[2], "place": out[3]}), "part": part.hex()}
+    return fetched(record, answer, out)
+
+
+def field_of(case, record):
+    """A case of fetching by way of reading and the numbers that it told: reading's refusals, then that field."""
+    site, out = (ctypes.c_uint64 * 13)(), (ctypes.c_uint64 * 5)()
+    kind = KINDS.index(case["kind"].upper())
+    answer = library.sikalumdo_read(record, len(record), *case["facts"], site, 13)
+    if answer >> 32 == 0:
+        answer = library.sikalumdo_field_of(record, len(record), site, 13, kind, case["number"], out, 5)
+    return fetched(record, answer, out)
 
 
 def walk(case, record):
@@ -125,16 +140,17 @@ def build(case, record):
 
 
 def main():
-    runs = {"read": read, "fetch": fetch, "walk": walk, "tally": tally, "choose": choose, "build": build}
+    runs = [("read", read), ("fetch", fetch), ("fetch", field_of), ("walk", walk), ("tally", tally), ("choose", choose),
+            ("build", build)]
     ran, wrong = collections.Counter(), 0
-    for name, run in runs.items():
+    for name, run in runs:
         for number, line in enumerate((ROOT / "tests" / "vectors" / f"{name}.jsonl").read_text("utf-8").splitlines(), 1):
             case = json.loads(line)
-            ran[name] += 1
+            ran[run.__name__] += 1
             got = run(case, bytes.fromhex(case["record"]))
             if got != case["want"]:
                 wrong += 1
-                print(f"{name}.jsonl:{number}: got {str(got)[:300]}, wanted {str(case['want'])[:300]}")
+                print(f"{name}.jsonl:{number}: {run.__name__} got {str(got)[:300]}, wanted {str(case['want'])[:300]}")
     print("tests/vectors.sh: " + ", ".join(f"{n} of {op}" for op, n in ran.items()) + f", {wrong} wrong")
     return 1 if wrong or not ran else 0
 

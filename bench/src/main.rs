@@ -13,7 +13,7 @@ use std::path::{Path, PathBuf};
 use std::process::Command;
 
 use record::Record;
-use tasks::{building, choosing, reading, tallying, Task};
+use tasks::{building, choosing, fetching, reading, tallying, Task};
 use timing::Times;
 
 fn main() {
@@ -42,10 +42,11 @@ fn main() {
     }
 }
 
-fn tasks() -> [Task; 8] {
+fn tasks() -> [Task; 9] {
     let full = || Record::new(10_000, 0, true);
     [
         reading("read, 10,000 people, GT DP GQ", full()),
+        fetching("read, then each FORMAT field, 10,000 people", full()),
         tallying("read + tally, 10,000 people, GT DP GQ", full()),
         tallying("read + tally, 10,000 people, GT", Record::new(10_000, 0, false)),
         tallying("read + tally, 10,000 people, GT, half haploid", Record::new(10_000, 2, false)),

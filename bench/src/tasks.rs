@@ -29,6 +29,32 @@ pub fn reading(name: &'static str, record: Record) -> Task {
     Task { name, times, htslib: "read", record }
 }
 
+/// The numbers that reading told, as fetching takes them.
+fn told(site: &plain::Site) -> [u64; 13] {
+    let mut numbers = [0; 13];
+    numbers[..2].copy_from_slice(&[site.length.into(), site.border.into()]);
+    let counts = [site.alleles, site.infos, site.formats, site.people];
+    numbers[6..10].copy_from_slice(&counts.map(u64::from));
+    numbers
+}
+
+/// A record read once, and then each of its FORMAT fields fetched by what reading told.
+pub fn fetching(name: &'static str, record: Record) -> Task {
+    let (bytes, facts, plain_facts) = (record.bytes(), record.facts, plain_facts(&record.facts));
+    let fields = record.formats.len() as u32;
+    let ours = || {
+        let record = sikalumdo::Record::read(black_box(&bytes), &facts).expect("an accepted record");
+        (0..fields).map(|n| record.fetch(sikalumdo::Kind::FORMAT, n).expect("a field").stop).sum::<u32>()
+    };
+    let plain = || {
+        let numbers = told(&plain::read(black_box(&bytes), &plain_facts).expect("an accepted record"));
+        (0..fields).map(|n| plain::field_of(&bytes, &numbers, plain::Kind::Format, n).expect("a field").stop).sum::<u32>()
+    };
+    assert_eq!(ours(), plain());
+    let times = by_turns(ours, plain);
+    Task { name, times, htslib: "read", record }
+}
+
 /// Tallying reads the record first.
 pub fn tallying(name: &'static str, record: Record) -> Task {
     let (bytes, facts, plain_facts) = (record.bytes(), record.facts, plain_facts(&record.facts));

@@ -20,12 +20,13 @@ def facts_of(line):
     return sikalumdo.Facts(*(int(digits[at:at + 8], 16) for at in range(0, 32, 8)))
 
 
-def sentence(record, facts):
+def sentence(data, facts):
     """The counts of a record, as a line of text."""
-    told = sikalumdo.tally(record, facts)
+    record = sikalumdo.read(data, facts)
+    told = sikalumdo.tally(data, facts)
     calls = []
     for number, count in enumerate(told.calls):
-        text = sikalumdo.fetch(record, facts, sikalumdo.ALLELE, number).part
+        text = record.fetch(sikalumdo.ALLELE, number).part
         calls.append(f"{text.decode('ascii')} {count}")
     return f"{told.people} people, {told.without} without a genotype, {told.missing} missing alleles: {', '.join(calls)}"
 

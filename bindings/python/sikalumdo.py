@@ -2,8 +2,8 @@
 
     import sikalumdo
     facts = sikalumdo.Facts(strings=4, contigs=1, people=2, gt=3)
-    site = sikalumdo.read(record, facts)
-    depth = sikalumdo.fetch(record, facts, sikalumdo.INFO, 0).values()
+    record = sikalumdo.read(data, facts)
+    depth = record.fetch(sikalumdo.INFO, 0).values()
 
 Every rule of the format is the library's; this module turns Python's values into what the library is lent, and its
 answers into Python's values. A refusal raises `Refusal`. A number that does not fit the library's own, as a negative
@@ -11,6 +11,9 @@ person or an integer over 32 bits, raises OverflowError before the library is as
 
 A record is any bytes-like object, and begins at its first byte; bytes after the record are left alone. Objects other
 than `bytes` are copied at each call. Places and lengths of records are in bytes; indices and numbers count from 0.
+
+Who wants more than one value reads the record once, and fetches from the Record that `read` answers: each of its
+fetches goes to its field and judges nothing again. `fetch` and `pairs`, which take the facts, read the record each time.
 
 The library is the file that the environment variable SIKALUMDO_LIBRARY names or, without it, target/host/libc_api.so
 of this repository, which `tools/host c_api` writes.
@@ -123,12 +126,44 @@ class Field(collections.namedtuple("Field", "key type length place stop part")):
             found.append(_low(answer) if self.type == FLOAT else _signed(_low(answer)))
 
 
+class Record(Site):
+    """A record that was read: a Site, and the record's bytes, from which fields are fetched without reading it again.
+
+    bytes: the record's own bytes. It is equal to any Site of the same numbers, as tuples are.
+    """
+
+    def __new__(cls, site, part):
+        """The Site that reading told of the bytes of a record. `read` makes it."""
+        record = super().__new__(cls, *site)
+        record.bytes = part
+        record._held = _told(site)
+        return record
+
+    def __reduce__(self):
+        """What it is made of again, for copies and pickles."""
+        return Record, (tuple(self), self.bytes)
+
+    def _replace(self, **numbers):
+        """A Site with other numbers, which are no longer those of these bytes."""
+        return Site(*self)._replace(**numbers)
+
+    def fetch(self, kind, number):
+        """The field of a kind and a number, as `fetch` answers it. Raises Refusal 16 where there is no such field or kind."""
+        return _fetched(self.bytes, self._held, kind, number)
+
+    def pairs(self):
+        """A generator of the INFO pairs, as `pairs` gives them. The first one stands where FILTER stops."""
+        return _walk(self.bytes, self.fetch(FILTER, 0).stop)
+
+
 def read(record, facts):
-    """Reads the record and answers its Site. Raises Refusal 1 to 11."""
+    """Reads the record and answers a Record: its Site, and its bytes to fetch from. Raises Refusal 1 to 11."""
+    record = _bytes(record)
     out = (ctypes.c_uint64 * len(Site._fields))()
-    _accepted(_library.sikalumdo_read(*_lent(record, facts), out, len(out)))
+    length = _accepted(_library.sikalumdo_read(*_lent(record, facts), out, len(out)))
     site = Site(*out)
-    return site._replace(chrom=_signed(site.chrom), pos=_signed(site.pos), rlen=_signed(site.rlen))
+    site = site._replace(chrom=_signed(site.chrom), pos=_signed(site.pos), rlen=_signed(site.rlen))
+    return Record(site, record[:length])
 
 
 def fetch(record, facts, kind, number):
@@ -140,6 +175,15 @@ def fetch(record, facts, kind, number):
     out = (ctypes.c_uint64 * 5)()
     _accepted(_library.sikalumdo_fetch(*_lent(record, facts), _word(kind), _word(number), out, len(out)))
     return _field(record, out)
+
+
+def field_of(record, site, kind, number):
+    """Fetches from a record that was read, by the Site that reading told; the record is not read or judged again.
+
+    Answers what `fetch` answers. With any other numbers in the Site, each of 0 to 2^64 - 1, it is the field that stands
+    whole where they lead. Raises Refusal 16 where there is none, or no such kind.
+    """
+    return _fetched(_bytes(record), _told(site), kind, number)
 
 
 def shown(part, code, index):
@@ -257,6 +301,7 @@ class Builder:
 
 
 _MOST_SIZE = ctypes.c_size_t(-1).value
+_MOST_NUMBER = ctypes.c_uint64(-1).value
 
 
 def _within(value, low, high):
@@ -310,6 +355,14 @@ def _words(facts):
     return _word(strings), _word(contigs), _word(people), _word(gt)
 
 
+def _told(site):
+    """A Site's numbers as reading told them: CHROM, POS and rlen, which may be negative, as their 32 bits."""
+    length, border, chrom, pos, rlen, *rest = site
+    signed = (_low(_integer(value)) for value in (chrom, pos, rlen))
+    numbers = (_within(value, 0, _MOST_NUMBER) for value in (length, border, *signed, *rest))
+    return (ctypes.c_uint64 * len(Site._fields))(*numbers)
+
+
 def _lent(record, facts):
     """A record and its facts as the library takes them."""
     return (*_text(record), *_words(facts))
@@ -324,6 +377,14 @@ def _listed(code, values):
     count = len(held)
     held.append(0)
     return ((ctypes.c_int32 if code == "i" else ctypes.c_uint32) * len(held)).from_buffer(held), count
+
+
+def _fetched(record, held, kind, number):
+    """The field of a record that was read, by the numbers that reading told."""
+    out = (ctypes.c_uint64 * 5)()
+    words = (_word(kind), _word(number))
+    _accepted(_library.sikalumdo_field_of(record, len(record), held, len(held), *words, out, len(out)))
+    return _field(record, out)
 
 
 def _field(record, out):
@@ -354,8 +415,9 @@ def _load():
     buffer, told = [ctypes.POINTER(ctypes.c_uint8), size], [ctypes.POINTER(ctypes.c_uint64), size]
     record, turn = text + [word] * 4, words + buffer
     takes = {
-        "read": record + told, "fetch": record + [word] * 2 + told, "shown": text + [ctypes.c_uint8, size],
-        "tally": record + told, "choose": record + words + buffer, "first_pair": record,
+        "read": record + told, "fetch": record + [word] * 2 + told, "field_of": text + told + [word] * 2 + told,
+        "shown": text + [ctypes.c_uint8, size], "tally": record + told, "choose": record + words + buffer,
+        "first_pair": record,
         "pair": text + [size] + told, "fresh": words, "begin": turn + [word] * 4 + [integer] * 3 + [word],
         "id": turn + text, "allele": turn + text, "filter": turn + integers, "end": turn,
         "info_integers": turn + [integer] + integers, "info_floats": turn + [integer] + words,

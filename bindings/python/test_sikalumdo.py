@@ -2,6 +2,7 @@
 
     python3 -m unittest discover -s bindings/python
 """
+import copy
 import inspect
 import pathlib
 import pickle
@@ -11,7 +12,7 @@ import unittest
 
 import example_tally
 import sikalumdo
-from sikalumdo import ALLELE, FILTER, FORMAT, ID, INFO, Builder, Facts, Refusal
+from sikalumdo import ALLELE, FILTER, FORMAT, ID, INFO, Builder, Facts, Refusal, Site
 
 ROOT = pathlib.Path(__file__).resolve().parents[2]
 FACTS = Facts(strings=4, contigs=1, people=2, gt=3)
@@ -113,6 +114,49 @@ class Fetching(Case):
             self.assertRefused(16, 0, sikalumdo.fetch, RECORD, FACTS, kind, number)
         self.assertRefused(1, 0, sikalumdo.fetch, RECORD[:9], FACTS, 5, 0)
         self.assertRaises(OverflowError, sikalumdo.fetch, RECORD, FACTS, INFO, -1)
+
+    def test_read_once(self):
+        """A record that was read gives the fields that fetching gives, and the same pairs."""
+        hundred = sample("hundred-people.hex")
+        for facts, data in ((FACTS, RECORD), (FACTS, BARE_RECORD), (hundred[0], hundred[1][0]), (FACTS, bytearray(RECORD + b"next"))):
+            record = sikalumdo.read(data, facts)
+            self.assertEqual(record.bytes, data[:record.length])
+            for kind, count in ((ID, 1), (ALLELE, record.alleles), (FILTER, 1), (INFO, record.infos), (FORMAT, record.formats)):
+                for number in range(count):
+                    self.assertEqual(record.fetch(kind, number), sikalumdo.fetch(data, facts, kind, number))
+                    self.assertEqual(sikalumdo.field_of(data, Site(*record), kind, number), record.fetch(kind, number))
+                self.assertRefused(16, 0, record.fetch, kind, count)
+            self.assertEqual(list(record.pairs()), list(sikalumdo.pairs(data, facts)))
+            self.assertRefused(16, 0, record.fetch, 5, 0)
+            self.assertRaises(OverflowError, record.fetch, INFO, -1)
+
+    def test_read_is_a_site(self):
+        record = sikalumdo.read(RECORD[:12] + b"\xff" * 4 + RECORD[16:], FACTS)
+        self.assertIsInstance(record, Site)
+        for again in (pickle.loads(pickle.dumps(record)), copy.deepcopy(record)):
+            self.assertEqual((again, again.bytes), (record, record.bytes))
+            self.assertEqual(again.fetch(FORMAT, 0), record.fetch(FORMAT, 0))
+        self.assertIs(type(record._replace(infos=0)), Site)
+        self.assertRefused(16, 0, sikalumdo.field_of, RECORD, record._replace(infos=0), INFO, 0)
+
+    def test_other_sites(self):
+        """Whatever numbers are given, the answer is a field inside the bytes, or 16."""
+        site, most = Site(*sikalumdo.read(RECORD, FACTS)), (1 << 64) - 1
+        sites = [site._replace(**{name: value}) for name in ("length", "border", "alleles", "infos", "formats", "people")
+                 for value in (0, 1, 31, 33, 45, 49, 51, 255, 65535, (1 << 32) - 1, 1 << 32, most)]
+        sites += [Site(value, value, -1, -1, -1, *[value] * 8) for value in (0, 50, most)]
+        for other in sites:
+            for kind in range(6):
+                for number in (0, 1, 2, 4294967295):
+                    try:
+                        field = sikalumdo.field_of(RECORD, other, kind, number)
+                    except Refusal as refusal:
+                        self.assertEqual((refusal.number, refusal.place), (16, 0))
+                    else:
+                        self.assertTrue(0 < field.place <= field.stop <= len(RECORD))
+        self.assertEqual(sikalumdo.field_of(RECORD, site._replace(formats=257, people=1), FORMAT, 0).part, b"\2\3")
+        self.assertRaises(OverflowError, sikalumdo.field_of, RECORD, site._replace(length=-1), ID, 0)
+        self.assertRaises(OverflowError, sikalumdo.field_of, RECORD, site._replace(pos=1 << 31), ID, 0)
 
     def test_shown(self):
         self.assertEqual(sikalumdo.shown(b"\x80\x81", sikalumdo.INT8, 1), 0x80000001)

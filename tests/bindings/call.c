@@ -49,6 +49,12 @@ static uint64_t fetch_into(uint32_t kind, uint32_t number, uint64_t *out, size_t
     return sikalumdo_fetch(record, RECORD, STRINGS, CONTIGS, PEOPLE, GT, kind, number, out, room);
 }
 
+static uint64_t field_into(const uint64_t *site, size_t numbers, uint32_t kind, uint32_t number, uint64_t *out,
+                           size_t room)
+{
+    return sikalumdo_field_of(record, RECORD, site, numbers, kind, number, out, room);
+}
+
 static uint64_t tally_into(const uint8_t *s, size_t count, uint64_t *out, size_t room)
 {
     return sikalumdo_tally(s, count, STRINGS, CONTIGS, PEOPLE, GT, out, room);
@@ -115,6 +121,80 @@ static void test_fetching(void)
     CHECK(is(fetch_into(5, 0, out, SIKALUMDO_FIELD_NUMBERS), 16, 0));
     CHECK(is(fetch_into(0xFFFFFFFF, 0, out, 0), 16, 0));
     CHECK(untouched(out, sizeof out));
+}
+
+/* By the numbers that reading told, each field is the one that fetching gives, and so is each refusal but reading's. */
+static void test_fetching_once_read(void)
+{
+    uint64_t site[SIKALUMDO_SITE_NUMBERS + 1], out[SIKALUMDO_FIELD_NUMBERS], told[SIKALUMDO_FIELD_NUMBERS];
+    uint32_t kind, number;
+    memset(site, 0xA5, sizeof site);
+    CHECK(is(read_into(record, RECORD, site, SIKALUMDO_SITE_NUMBERS), 0, RECORD));
+    for (kind = 0; kind < 7; kind++)
+        for (number = 0; number < 4; number++) {
+            uint64_t answer = fetch_into(kind, number, told, SIKALUMDO_FIELD_NUMBERS);
+            memset(out, 0xA5, sizeof out);
+            CHECK(field_into(site, SIKALUMDO_SITE_NUMBERS, kind, number, out, SIKALUMDO_FIELD_NUMBERS) == answer);
+            CHECK(sikalumdo_number(answer) ? untouched(out, sizeof out) : memcmp(out, told, sizeof out) == 0);
+            CHECK(field_into(site, SIKALUMDO_SITE_NUMBERS + 1, kind, number, out, SIKALUMDO_FIELD_NUMBERS) == answer);
+        }
+    memset(out, 0xA5, sizeof out);
+    CHECK(is(field_into(site, SIKALUMDO_SITE_NUMBERS, 5, 0, out, SIKALUMDO_FIELD_NUMBERS), 16, 0));
+    CHECK(is(field_into(site, SIKALUMDO_SITE_NUMBERS, 0xFFFFFFFF, 0, out, 0), 16, 0));
+    CHECK(is(field_into(site, SIKALUMDO_SITE_NUMBERS, SIKALUMDO_KIND_INFO, 0, out, SIKALUMDO_FIELD_NUMBERS - 1), 13,
+             0));
+    CHECK(is(field_into(site, SIKALUMDO_SITE_NUMBERS, SIKALUMDO_KIND_INFO, 1, out, 0), 16, 0));
+    CHECK(is(sikalumdo_field_of(record, 42, site, SIKALUMDO_SITE_NUMBERS, SIKALUMDO_KIND_INFO, 0, out,
+                                SIKALUMDO_FIELD_NUMBERS), 16, 0));
+    for (kind = 0; kind < 5; kind++)
+        CHECK(is(field_into(site, SIKALUMDO_SITE_NUMBERS - 1, kind, 0, out, SIKALUMDO_FIELD_NUMBERS), 16, 0));
+    CHECK(untouched(out, sizeof out));
+}
+
+/* Whether fields by these numbers are 16, with nothing written, or lie in the record. */
+static int lie_inside(const uint64_t *site)
+{
+    uint32_t kind, number;
+    for (kind = 0; kind < 6; kind++)
+        for (number = 0; number < 4; number++) {
+            uint64_t out[SIKALUMDO_FIELD_NUMBERS], answer;
+            memset(out, 0xA5, sizeof out);
+            answer = field_into(site, SIKALUMDO_SITE_NUMBERS, kind, number, out, SIKALUMDO_FIELD_NUMBERS);
+            if (sikalumdo_number(answer) ? !is(answer, 16, 0) || !untouched(out, sizeof out)
+                                         : out[SIKALUMDO_FIELD_PLACE] > out[SIKALUMDO_FIELD_STOP]
+                                               || out[SIKALUMDO_FIELD_STOP] > RECORD)
+                return 0;
+        }
+    return 1;
+}
+
+/* With any other numbers, one of them or all, no byte outside the record is read, and what is told lies in it. */
+static void test_other_sites(void)
+{
+    static const uint64_t numbers[] = {0,   1,     32,         45,                51,        256,
+                                       257, 65536, UINT32_MAX, (uint64_t)1 << 32, UINT64_MAX};
+    uint64_t site[SIKALUMDO_SITE_NUMBERS], out[SIKALUMDO_FIELD_NUMBERS], was;
+    size_t i, k;
+    for (i = 0; i < sizeof numbers / sizeof numbers[0]; i++) {
+        CHECK(is(read_into(record, RECORD, site, SIKALUMDO_SITE_NUMBERS), 0, RECORD));
+        for (k = 0; k < SIKALUMDO_SITE_NUMBERS; k++) {
+            was = site[k];
+            site[k] = numbers[i];
+            CHECK(lie_inside(site));
+            site[k] = was;
+        }
+        for (k = 0; k < SIKALUMDO_SITE_NUMBERS; k++)
+            site[k] = numbers[i];
+        CHECK(lie_inside(site));
+    }
+    /* The counts are taken in as many bits as a record has for them, so these are 1 FORMAT field and 2 alleles. */
+    CHECK(is(read_into(record, RECORD, site, SIKALUMDO_SITE_NUMBERS), 0, RECORD));
+    site[SIKALUMDO_SITE_FORMATS] += 256;
+    site[SIKALUMDO_SITE_ALLELES] += 65536;
+    CHECK(is(field_into(site, SIKALUMDO_SITE_NUMBERS, SIKALUMDO_KIND_FORMAT, 0, out, SIKALUMDO_FIELD_NUMBERS), 0, 4));
+    CHECK(is(field_into(site, SIKALUMDO_SITE_NUMBERS, SIKALUMDO_KIND_FILTER, 0, out, SIKALUMDO_FIELD_NUMBERS), 0, 1));
+    site[SIKALUMDO_SITE_FORMATS]--;
+    CHECK(is(field_into(site, SIKALUMDO_SITE_NUMBERS, SIKALUMDO_KIND_FORMAT, 0, out, SIKALUMDO_FIELD_NUMBERS), 16, 0));
 }
 
 static void test_showing(void)
@@ -467,6 +547,7 @@ static int load(const char *path)
 int main(int argc, char **argv)
 {
     static void (*const all[])(void) = {test_reading,  test_fetching,   test_showing,
+                                        test_fetching_once_read, test_other_sites,
                                         test_walking,  test_tallying,   test_choosing,
                                         test_building, test_short_outs, test_building_other_types,
                                         test_refused_turns, test_refused_beginnings, test_refusals_of_reading,

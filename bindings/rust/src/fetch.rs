@@ -1,6 +1,6 @@
 //! Fetching: one value of a record by kind and number, and how its elements are shown.
 
-use crate::{ffi, Facts, Refusal};
+use crate::{ffi, Facts, Refusal, Site};
 
 /// A kind of value. Another number than those of the five is taken too: there is no field of that kind (16).
 #[derive(Debug, Clone, Copy, PartialEq, Eq, Hash)]
@@ -36,7 +36,22 @@ pub struct Field<'a> {
     pub stop: u32,
 }
 
-/// Fetches the value of a kind and a number, from 0.
+impl<'a> Field<'a> {
+    /// The field of `s` that the library told: the bytes of its part, and its five numbers.
+    fn told(s: &'a [u8], (bytes, [key, code, len, place, stop]): (u32, [u64; 5])) -> Field<'a> {
+        Field {
+            elements: &s[place as usize..][..bytes as usize],
+            key: key as u32,
+            code: code as u8,
+            len: len as u32,
+            place: place as u32,
+            stop: stop as u32,
+        }
+    }
+}
+
+/// Fetches the value of a kind and a number, from 0. The record is read each time; who wants more than one value reads
+/// it once, as a [`Record`](crate::Record).
 ///
 /// ```no_run
 /// # let (record, facts) = (Vec::new(), sikalumdo::Facts { strings: 4, contigs: 1, people: 2, gt: 3 });
@@ -49,15 +64,18 @@ pub struct Field<'a> {
 ///
 /// Reading's refusal, then 16.
 pub fn fetch<'a>(s: &'a [u8], facts: &Facts, kind: Kind, number: u32) -> Result<Field<'a>, Refusal> {
-    let (bytes, [key, code, len, place, stop]) = ffi::fetch(s, facts, kind, number)?;
-    Ok(Field {
-        elements: &s[place as usize..][..bytes as usize],
-        key: key as u32,
-        code: code as u8,
-        len: len as u32,
-        place: place as u32,
-        stop: stop as u32,
-    })
+    Ok(Field::told(s, ffi::fetch(s, facts, kind, number)?))
+}
+
+/// Fetches from a record that was read, by the site that reading answered; the record isn't read or judged again. With
+/// any other site the answer is still determined: the field that stands whole where its numbers lead, or 16.
+///
+/// # Errors
+///
+/// 16.
+pub fn field_of<'a>(s: &'a [u8], site: &Site, kind: Kind, number: u32) -> Result<Field<'a>, Refusal> {
+    // No place is past the site's length or border, so each is one of 32 bits, whatever the slice.
+    Ok(Field::told(s, ffi::field_of(s, &site.numbers(), kind, number)?))
 }
 
 /// The 32 bits that an element of a fetched part is shown by: an integer as a signed number with the marks of type 3,

@@ -35,6 +35,16 @@ extern "C" {
         out: *mut u64,
         out_len: usize,
     ) -> u64;
+    fn sikalumdo_field_of(
+        s: *const u8,
+        s_len: usize,
+        site: *const u64,
+        site_len: usize,
+        kind: u32,
+        number: u32,
+        out: *mut u64,
+        out_len: usize,
+    ) -> u64;
     fn sikalumdo_shown(part: *const u8, part_len: usize, code: u8, index: usize) -> u64;
     fn sikalumdo_tally(
         s: *const u8,
@@ -138,6 +148,17 @@ pub fn fetch(s: &[u8], facts: &Facts, kind: Kind, number: u32) -> Result<(u32, [
     // SAFETY: lends the record to be read and this function's own five numbers to be written.
     let bytes = opened(unsafe {
         sikalumdo_fetch(s.as_ptr(), s.len(), strings, contigs, people, gt, kind, number, out.as_mut_ptr(), out.len())
+    })?;
+    Ok((bytes, out))
+}
+
+/// The same of a record that was read, by the numbers that reading told.
+pub fn field_of(s: &[u8], site: &[u64; 13], kind: Kind, number: u32) -> Result<(u32, [u64; 5]), Refusal> {
+    let mut out = [0; 5];
+    let Kind(kind) = kind;
+    // SAFETY: lends the record and the site's numbers to be read and this function's own five numbers to be written.
+    let bytes = opened(unsafe {
+        sikalumdo_field_of(s.as_ptr(), s.len(), site.as_ptr(), site.len(), kind, number, out.as_mut_ptr(), out.len())
     })?;
     Ok((bytes, out))
 }

@@ -1,5 +1,6 @@
 //! One uncompressed BCF2 record at a time: reading it, fetching a value, walking its INFO pairs, tallying its
-//! genotypes, choosing people, and building a record.
+//! genotypes, choosing people, and building a record. Who wants several values of a record reads it once, as a
+//! [`Record`], and fetches from that.
 //!
 //! The work is done by a proved library; this crate only lends it slices and opens its answers, and holds no rule of
 //! the format. The header stays outside: its facts come in as the four numbers of [`Facts`]. A call that isn't
@@ -21,6 +22,7 @@ mod facts;
 mod fetch;
 mod ffi;
 mod read;
+mod record;
 mod refusal;
 mod tally;
 mod walker;
@@ -28,8 +30,9 @@ mod walker;
 pub use build::Builder;
 pub use choose::choose;
 pub use facts::Facts;
-pub use fetch::{fetch, shown, Field, Kind};
+pub use fetch::{fetch, field_of, shown, Field, Kind};
 pub use read::{read, Site};
+pub use record::Record;
 pub use refusal::Refusal;
 pub use tally::{tally, Tally};
 pub use walker::{pair_at, pairs, Pair, Pairs};

@@ -33,7 +33,20 @@ pub struct Site {
     pub gt_place: u32,
 }
 
-/// Reads the record at the start of `s`; bytes after it belong to the next one.
+impl Site {
+    /// The numbers as reading told them.
+    #[rustfmt::skip]
+    pub(crate) fn numbers(&self) -> [u64; 13] {
+        [
+            self.length.into(), self.border.into(), (self.chrom as u32).into(), (self.pos as u32).into(),
+            (self.rlen as u32).into(), self.qual_bits.into(), self.alleles.into(), self.infos.into(),
+            self.formats.into(), self.people.into(), self.gt_type.into(), self.gt_len.into(), self.gt_place.into(),
+        ]
+    }
+}
+
+/// Reads the record at the start of `s`; bytes after it belong to the next one. [`Record::read`](crate::Record::read)
+/// keeps the bytes beside the answer, to fetch from.
 ///
 /// # Errors
 ///

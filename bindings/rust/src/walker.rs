@@ -29,6 +29,13 @@ pub struct Pairs<'a> {
     at: usize,
 }
 
+impl<'a> Pairs<'a> {
+    /// A walker of a record that was read, at a place.
+    pub(crate) fn at(record: &'a [u8], at: usize) -> Pairs<'a> {
+        Pairs { record, at }
+    }
+}
+
 /// Opens a walker at the record's first INFO pair.
 ///
 /// ```no_run
@@ -43,8 +50,7 @@ pub struct Pairs<'a> {
 ///
 /// Reading's refusal.
 pub fn pairs<'a>(s: &'a [u8], facts: &Facts) -> Result<Pairs<'a>, Refusal> {
-    let at = ffi::first_pair(s, facts)? as usize;
-    Ok(Pairs { record: s, at })
+    Ok(Pairs::at(s, ffi::first_pair(s, facts)? as usize))
 }
 
 /// The pair at a place, or `None`, the end, where no whole pair fits there before the end of the site block, or that

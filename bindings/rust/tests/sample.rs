@@ -1,6 +1,8 @@
 //! The repository's sample record of two people, through every function of the crate; and the same with bare 00s.
 
-use sikalumdo::{choose, fetch, pair_at, pairs, read, shown, tally, Builder, Facts, Kind, Refusal};
+use sikalumdo::{
+    choose, fetch, field_of, pair_at, pairs, read, shown, tally, Builder, Facts, Kind, Record, Refusal, Site,
+};
 
 const PATTERN: u8 = 0xA5;
 /// The place of the FORMAT and people counts, the last field that end fills in.
@@ -70,6 +72,54 @@ fn values_are_fetched_and_shown() {
     for (kind, number) in [(Kind::ID, 1), (Kind::INFO, 1), (Kind(5), 0)] {
         assert_eq!(fetch(&record, &facts, kind, number), Err(Refusal { number: 16, place: 0 }));
     }
+}
+
+const KINDS: [Kind; 5] = [Kind::ID, Kind::ALLELE, Kind::FILTER, Kind::INFO, Kind::FORMAT];
+
+#[test]
+fn a_record_that_was_read_is_fetched_from() {
+    let (facts, data) = sample();
+    for data in [data, bare()] {
+        let next = [&data[..], &[PATTERN]].concat();
+        let record = Record::read(&next, &facts).expect("an accepted record");
+        assert_eq!((record.bytes(), *record.site()), (&data[..], read(&data, &facts).expect("the same record")));
+        for (kind, count) in KINDS.into_iter().zip([1, 2, 1, 1, 1]) {
+            for number in 0..count + 2 {
+                let wanted = fetch(&next, &facts, kind, number);
+                assert_eq!((record.fetch(kind, number), wanted.is_ok()), (wanted, number < count));
+                assert_eq!(field_of(&next, record.site(), kind, number), wanted);
+            }
+        }
+        assert_eq!(record.fetch(Kind(5), 0), Err(Refusal { number: 16, place: 0 }));
+        assert!(record.pairs().eq(pairs(&next, &facts).expect("an accepted record")));
+    }
+    assert_eq!(Record::read(&[], &facts), Err(Refusal { number: 1, place: 0 }));
+}
+
+/// A site of any numbers gives a field inside the bytes, or 16.
+#[test]
+fn other_sites_are_safe() {
+    let (facts, record) = sample();
+    let site = read(&record, &facts).expect("an accepted record");
+    let numbers = [0, 1, 31, 33, 45, 49, 51, 255, 256, 65_535, 65_536, u32::MAX];
+    let others = numbers.into_iter().flat_map(|x| {
+        let all = Site { length: x, border: x, alleles: x, infos: x, formats: x, people: x, ..site };
+        let (length, border) = (Site { length: x, ..site }, Site { border: x, ..site });
+        let (alleles, infos) = (Site { alleles: x, ..site }, Site { infos: x, ..site });
+        [all, length, border, alleles, infos, Site { formats: x, ..site }, Site { people: x, ..site }]
+    });
+    for other in others {
+        for kind in KINDS.into_iter().chain([Kind(5), Kind(u32::MAX)]) {
+            for number in [0, 1, 2, u32::MAX] {
+                match field_of(&record, &other, kind, number) {
+                    Ok(field) => assert_eq!(field.elements, &record[field.place as usize..field.stop as usize]),
+                    Err(refusal) => assert_eq!(refusal, Refusal { number: 16, place: 0 }),
+                }
+            }
+        }
+    }
+    let one = field_of(&record, &Site { formats: 257, people: 1, ..site }, Kind::FORMAT, 0).expect("one person's GT");
+    assert_eq!(one.elements, [2, 3]);
 }
 
 #[test]

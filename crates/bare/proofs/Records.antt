@@ -29,6 +29,7 @@ use Rattle.record.proofs.Accepted.{accepted, accepted-fits}
 use Rattle.fetch.specs.Account.{siteKinds}
 use Rattle.fetch.specs.declared.Kind.{Kind}
 use Rattle.fetch.specs.declared.Kind.the-variants.{Id as IdKind, Allele as AlleleKind, Filter as FilterKind, Info as InfoKind, Format as FormatKind}
+use Rattle.fetched.specs.InTurn.{Accepts}
 use Rattle.fetched.proofs.Fronts.{field-take, field-append}
 use Rattle.bare.specs.Ones.{Rest, pastValue, valueOne, pastKey, pairOne, oneOf, onesOf, withOnes}
 use Rattle.bare.proofs.Values.{length-oneFor}
@@ -162,11 +163,6 @@ fits-ones f s t x =
       peopleRight = x .peopleRight;
     }
 
--- the law: an accepted record is accepted with 01 in place of each bare 00, and its site is the same
-pub record Reads (f : Facts) (t : Site) (s : List ℕ) : Type 0 where
-  pub gt : Gt
-  pub read : reading f s ≡ Accepted t gt
-
 -- a front, a site block and a genotype block that are sound are a record
 whole : (f : Facts) (t : Site) (g : Gt) (s : List ℕ) (e : ℕ) → fixed f s ≡ Front t → siteOf f t s ≡ At e → genotypesOf f t s ≡ Sound g
     → reading f s ≡ Accepted t g
@@ -193,7 +189,8 @@ unfolding genotypesOf
 genotypes-there f s t g x h =
     rw (lies f s t x .genotypes, people-given (f .people) (t .formats) (t .people) (x .peopleRight) .0) h
 
-pub reads-ones : (f : Facts) (s : List ℕ) (t : Site) (g : Gt) → reading f s ≡ Accepted t g → Reads f t (withOnes t s)
+-- the law: an accepted record is accepted with 01 in place of each bare 00, and its site is the same
+pub reads-ones : (f : Facts) (s : List ℕ) (t : Site) (g : Gt) → reading f s ≡ Accepted t g → Accepts f (withOnes t s) t
 reads-ones f s t g h =
     let r = accepted f s t g h in
     let x = accepted-fits f s t g h in

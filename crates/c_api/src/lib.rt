@@ -8,13 +8,13 @@ ghost use mir.Syntax.{w32};
 ghost use mir.Val.{ofZ};
 ghost use Rattle.record.specs.Reading.{reading};
 ghost use Rattle.record.specs.Shown.{integers, floats, text};
-ghost use Rattle.fetch.specs.Fetch.{found};
+ghost use Rattle.fetch.specs.Fetch.{found, fieldOf};
 ghost use Rattle.elements.specs.Elements.{elementAt};
 ghost use Rattle.tally.specs.Tally.{tallied};
 ghost use Rattle.choose.specs.Choose.{choosing, afterChoosing};
 ghost use Rattle.walker.specs.Walk.{opened, pairAt};
 ghost use Rattle.build.specs.Turns.{begun, afterBegin, idGiven, afterId, alleleGiven, afterAllele, filterGiven, afterFilter, infoGiven, afterInfo, formatGiven, afterFormat, built, afterEnd};
-ghost use Rattle.told.specs.Told.{readingAnswer, readingNumbers, foundAnswer, foundNumbers, pairAnswer, pairNumbers, openingAnswer, shownAnswer, talliedAnswer, talliedNumbers, choosingAnswer};
+ghost use Rattle.told.specs.Told.{siteTold, readingAnswer, readingNumbers, foundAnswer, foundNumbers, pairAnswer, pairNumbers, openingAnswer, shownAnswer, talliedAnswer, talliedNumbers, choosingAnswer};
 ghost use Rattle.kept.specs.Kept.{stateOf, turnAnswer, turnNumbers, freshAnswer, freshNumbers};
 ghost use Rattle.c_api.specs.Given.{factsOf, kindOf, numberOf};
 use fetch::Kind;
@@ -93,6 +93,27 @@ pub extern "C" fn sikalumdo_fetch(
         gt,
     };
     let f = fetch::find(s, facts, kind_of(kind), number_of(kind, number));
+    told::tell_found(f, out)
+}
+
+// Fetches from a record that was read, by the numbers that reading told: the record is not read again.
+#[no_mangle]
+pub extern "C" fn sikalumdo_field_of(
+    s: &[u8],
+    site: &[u64],
+    kind: u32,
+    number: u32,
+    out: &mut [u64],
+) -> u64
+    ensures told { λ r. ⌜ r ≡ foundAnswer (length (now (out .entry))) (fieldOf (kindOf kind) (numberOf kind number) (siteTold (now (site .entry))) (now (s .entry))) ⌝ }
+    ensures written { λ _. ⌜ now (out .exit) ≡ foundNumbers (now (out .entry)) (fieldOf (kindOf kind) (numberOf kind number) (siteTold (now (site .entry))) (now (s .entry))) ⌝ }
+{
+    let f = fetch::field_of(
+        s,
+        told::site_told(site),
+        kind_of(kind),
+        number_of(kind, number),
+    );
     told::tell_found(f, out)
 }
 

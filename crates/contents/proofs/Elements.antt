@@ -17,7 +17,7 @@ use Rattle.record.specs.Shown.{elementsOf}
 use Rattle.fetched.proofs.Fronts.{numbers-take, shownNumbers-numbers}
 use Rattle.elements.specs.Elements.{elementAt}
 use Rattle.elements.specs.declared.Shown.the-variants.{Bits, Nothing}
-use Rattle.contents.specs.Fetched.{entry}
+use Rattle.contents.specs.Fetched.{shownAt}
 
 pub elementsOf-take : (t size : ℕ) (l m : List ℕ) → take size l ≡ take size m → elementsOf t size l ≡ elementsOf t size m
 unfolding elementsOf
@@ -34,24 +34,24 @@ unfolding elementsOf shownNumbers
 elementsOf-none t l = rw (zero-div (widthOf t))
 
 -- one of the numbers at the front of a list
-entry-shownNumbers : (t w n : ℕ) (l : List ℕ) (i : ℕ)
-    → entry (shownNumbers t w n l) i ≡ pick (leb n i) Nothing (Bits (shown t (number w (drop (i * w) l))))
+shownAt-shownNumbers : (t w n : ℕ) (l : List ℕ) (i : ℕ)
+    → shownAt (shownNumbers t w n l) i ≡ pick (leb n i) Nothing (Bits (shown t (number w (drop (i * w) l))))
 unfolding shownNumbers
-entry-shownNumbers t w zero l i = rw leb·zero
-entry-shownNumbers t w (suc n) l zero = rw (leb·suc-zero, zero-mul w)
-entry-shownNumbers t w (suc n) l (suc i) =
+shownAt-shownNumbers t w zero l i = rw leb·zero
+shownAt-shownNumbers t w (suc n) l zero = rw (leb·suc-zero, zero-mul w)
+shownAt-shownNumbers t w (suc n) l (suc i) =
     let e : w + i * w ≡ suc i * w = omega (arith, suc-mul i w) in
-    rw (leb·suc-suc, entry-shownNumbers t w n (drop w l) i, drop-drop (i * w) w l, e)
+    rw (leb·suc-suc, shownAt-shownNumbers t w n (drop w l) i, drop-drop (i * w) w l, e)
 
 -- so many bytes at the front of a list, as a part: its elements are those of the list
-pub entry-elementsOf : (t size : ℕ) (l : List ℕ) → size ≤ length l → (i : ℕ) → elementAt t i (take size l) ≡ entry (elementsOf t size l) i
+pub shownAt-elementsOf : (t size : ℕ) (l : List ℕ) → size ≤ length l → (i : ℕ) → elementAt t i (take size l) ≡ shownAt (elementsOf t size l) i
 unfolding elementAt elementsOf
-entry-elementsOf t size l h i =
+shownAt-elementsOf t size l h i =
     let w = widthOf t in
     let n = size / w in
     let front : shownNumbers t w n l ≡ shownNumbers t w n (take size l) =
     elementsOf-take t size l (take size l) (sym (take-take size size l (omega arith))) in
-    rw (length-take-le size l h, front) (sym (entry-shownNumbers t w n (take size l) i))
+    rw (length-take-le size l h, front) (sym (shownAt-shownNumbers t w n (take size l) i))
 
 length-shownNumbers : (t w n : ℕ) (l : List ℕ) → length (shownNumbers t w n l) ≡ n
 unfolding shownNumbers
@@ -79,8 +79,8 @@ unfolding elementsOf widthOf rowOf
 elementsOf-text size l h = rw (div-one size) (text-bytes size l h)
 
 -- what is answered at every index says which elements they are
-pub entry-same : (xs ys : List ℕ) → ((i : ℕ) → entry xs i ≡ entry ys i) → xs ≡ ys
-entry-same [] [] h = refl
-entry-same [] (y ∷ ys) h = let e = h 0 in cc
-entry-same (x ∷ xs) [] h = let e = h 0 in cc
-entry-same (x ∷ xs) (y ∷ ys) h = let e : x ≡ y = let e = h 0 in cc in rw (e, entry-same xs ys (λ i. h (suc i)))
+pub shownAt-same : (xs ys : List ℕ) → ((i : ℕ) → shownAt xs i ≡ shownAt ys i) → xs ≡ ys
+shownAt-same [] [] h = refl
+shownAt-same [] (y ∷ ys) h = let e = h 0 in cc
+shownAt-same (x ∷ xs) [] h = let e = h 0 in cc
+shownAt-same (x ∷ xs) (y ∷ ys) h = let e : x ≡ y = let e = h 0 in cc in rw (e, shownAt-same xs ys (λ i. h (suc i)))

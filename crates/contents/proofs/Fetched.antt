@@ -33,7 +33,7 @@ use Rattle.fetched.proofs.There.{accepted-people, found-none}
 use Rattle.contents.specs.Contents.{elementsAt, pairShown, fieldShown, shownOf}
 use Rattle.contents.specs.Fetched.{Gives, GivesText, GivesFilter, GivesPair, GivesField, ShownFetched}
 use Rattle.contents.proofs.Counts.{present-count, present-id, present-allele, present-filter}
-use Rattle.contents.proofs.Elements.{entry-elementsOf, length-elementsOf, elementsOf-text}
+use Rattle.contents.proofs.Elements.{shownAt-elementsOf, length-elementsOf, elementsOf-text}
 
 -- the entry of a number in a list of fields is what is found by that number, and there are as many as are found
 numbered-entry : (es : List Entry) (i : ℕ) (d : Entry) → i < length es → numbered i es ≡ asFound (getD es i d)
@@ -124,7 +124,7 @@ gives f s kind number e k x =
       place = e .place;
       stop = e .stop;
       there = k;
-      shows = λ i. rw k (entry-elementsOf (e .code) (e .stop - e .place) (drop (e .place) s) (x .whole) i);
+      shows = λ i. rw k (shownAt-elementsOf (e .code) (e .stop - e .place) (drop (e .place) s) (x .whole) i);
       count = length-elementsOf (e .code) (e .stop - e .place) (drop (e .place) s)
           ∙ field-count kind (f .people) (x .at) (x .block) (e .key) (e .code) (e .len) (e .place) (e .stop) (x .field);
     }

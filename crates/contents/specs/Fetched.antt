@@ -19,10 +19,10 @@ use Rattle.elements.specs.declared.Shown.the-variants.{Bits, Nothing}
 use Rattle.contents.specs.Contents.{shownOf}
 
 -- the element of a list at an index, as `element_at` answers; nothing past the last one
-abbrev pub entry : List ℕ → ℕ → Shown
-entry [] i = Nothing
-entry (x ∷ xs) zero = Bits x
-entry (x ∷ xs) (suc i) = entry xs i
+abbrev pub shownAt : List ℕ → ℕ → Shown
+shownAt [] i = Nothing
+shownAt (x ∷ xs) zero = Bits x
+shownAt (x ∷ xs) (suc i) = shownAt xs i
 
 -- the field of a kind and a number is found, and not refused, with this key, type and length; the elements of the part that is fetched, each shown
 -- by that type, are these at every index; and they are so many vectors of that length
@@ -30,7 +30,7 @@ pub record Gives (f : Facts) (s : List ℕ) (kind : Kind) (number vectors key co
   pub place : ℕ
   pub stop : ℕ
   pub there : found f kind number s ≡ Found key code len place stop
-  pub shows : (i : ℕ) → elementAt code i (fetched f kind number s) ≡ entry xs i
+  pub shows : (i : ℕ) → elementAt code i (fetched f kind number s) ≡ shownAt xs i
   pub count : length xs ≡ vectors * len
 
 -- ID or an allele: text, with no key; so it is the bytes that are fetched
@@ -59,7 +59,7 @@ pub record GivesField (f : Facts) (s : List ℕ) (number people : ℕ) (x : Fiel
   pub given : Gives f s Format number people (x .key) code (x .len) (x .value .elements)
   pub kind : x .value .kind ≡ kindOf code
 
--- what a record shows, whose site is t: all that can be fetched of it, and nothing else; `getD xs i d` is the entry at i of a list that is longer
+-- what a record shows, whose site is t: all that can be fetched of it, and nothing else; `getD xs i d` is what stands at i of a list that is longer
 -- than i, whatever d is
 pub record ShownFetched (f : Facts) (s : List ℕ) (t : Site) : Type 0 where
   pub chrom : shownOf t s .chrom ≡ t .chrom

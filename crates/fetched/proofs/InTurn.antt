@@ -31,7 +31,7 @@ use Rattle.fetch.specs.Fetch.{fieldOf, found}
 use Rattle.fetch.specs.declared.Kind.the-variants.{Format}
 use Rattle.fetch.specs.declared.Found.the-variants.{Field}
 use Rattle.fetch.proofs.Account.{of-kind}
-use Rattle.fetched.specs.InTurn.{judging, inTurn, NoneTwice, keysOf, InTurn, gtIn}
+use Rattle.fetched.specs.InTurn.{judging, inTurn, NoneTwice, keysOf, InTurn, Accepts, gtIn}
 use Rattle.fetched.proofs.Agree.{went}
 use Rattle.fetched.proofs.There.{ended-none, accepted-people}
 use Rattle.fetched.proofs.Turns.{site-in-turn, turns-within, turns-there}
@@ -82,11 +82,7 @@ accepted-in-turn f s t g h =
     }
 
 -- the other way: a front whose fields are judged sound in turn is that of an accepted record
-pub record Reads (f : Facts) (s : List ℕ) (t : Site) : Type 0 where
-  pub gt : Gt
-  pub read : reading f s ≡ Accepted t gt
-
-pub in-turn-accepted : (f : Facts) (s : List ℕ) (t : Site) → fixed f s ≡ Front t → InTurn f t s → Reads f s t
+pub in-turn-accepted : (f : Facts) (s : List ℕ) (t : Site) → fixed f s ≡ Front t → InTurn f t s → Accepts f s t
 unfolding reading siteOf genotypesOf
 in-turn-accepted f s t h u =
     let x = fixed-fits f s t h in

@@ -26,6 +26,8 @@ use Rattle.genotypes.specs.Formats.{roleOf, gtAt, noGt}
 use Rattle.genotypes.specs.declared.Gt.{Gt}
 use Rattle.genotypes.specs.declared.Genotypes.{Genotypes}
 use Rattle.genotypes.specs.declared.Genotypes.the-variants.{Sound, Refused as NoGenotypes}
+use Rattle.record.specs.Reading.{reading}
+use Rattle.record.specs.declared.Reading.the-variants.{Accepted}
 use Rattle.fetch.specs.Account.{Entry, fieldsOf, siteKinds, account, ofKind}
 use Rattle.fetch.specs.declared.Kind.{Kind}
 use Rattle.fetch.specs.declared.Kind.the-variants.{Id, Allele, Filter, Info, Format}
@@ -65,6 +67,11 @@ pub record InTurn (f : Facts) (t : Site) (s : List ℕ) : Type 0 where
   pub site : inTurn (judging f t) (siteKinds (t .alleles) (t .infos)) idAt (drop idAt (take (t .border) s)) ≡ At (t .border)
   pub genotypes : inTurn (judging f t) (replicate (t .formats) Format) (t .border) (drop (t .border) (take (t .length) s)) ≡ At (t .length)
   pub once : NoneTwice [] (keysOf (ofKind Format (account t s)))
+
+-- a record is accepted, and its site is known
+pub record Accepts (f : Facts) (s : List ℕ) (t : Site) : Type 0 where
+  pub gt : Gt
+  pub read : reading f s ≡ Accepted t gt
 
 -- where GT stands: at the first of these fields whose key is GT's, or nowhere
 unfoldable pub gtIn : ℕ → List Entry → Gt

@@ -2,24 +2,21 @@
 use mathlib.Core.Path.{_≡_}
 use mathlib.Core.List.{List}
 use Prim.Native.Nat.{ℕ}
-use Rattle.fixed.specs.Fixed.{fixed}
 use Rattle.fixed.specs.declared.Facts.{Facts}
 use Rattle.fixed.specs.declared.Site.{Site}
-use Rattle.fixed.specs.declared.Fixed.the-variants.{Site as Front}
 use Rattle.genotypes.specs.declared.Gt.{Gt}
 use Rattle.record.specs.Reading.{reading}
 use Rattle.record.specs.declared.Reading.the-variants.{Accepted}
 use Rattle.fetch.specs.Account.{account, ofKind, numbered}
 use Rattle.fetch.specs.Fetch.{fieldOf, found}
 use Rattle.fetch.specs.declared.Kind.{Kind}
-use Rattle.fetched.specs.InTurn.{InTurn}
 use Rattle.fetched.proofs.InTurn.{kinds-there, accepted-in-turn, in-turn-accepted, accepted-gt, gt-fetched, gt-none}
 use Rattle.fetched.proofs.FormatsInTurn.{format-in-turn}
 use Rattle.fetched.proofs.Turns.{site-in-turn}
 use Rattle.walker.proofs.Walks.{walk-account}
+use Rattle.contents.proofs.Elements.{shownAt-same}
 use Rattle.contents.proofs.Fetched.{shown-fetched}
 use Rattle.laws.specs.Account.{Accounts}
-use Rattle.laws.specs.Choosing.{Accepts}
 
 found-numbered : (f : Facts) (s : List ℕ) (t : Site) (g : Gt) (kind : Kind) (n : ℕ) → reading f s ≡ Accepted t g
     → found f kind n s ≡ numbered n (ofKind kind (account t s))
@@ -30,15 +27,12 @@ fieldOf-found : (f : Facts) (s : List ℕ) (t : Site) (g : Gt) (kind : Kind) (n 
 unfolding found
 fieldOf-found f s t g kind n h = rw h
 
-turns-accepted : (f : Facts) (s : List ℕ) (t : Site) → fixed f s ≡ Front t → InTurn f t s → Accepts f s t
-turns-accepted f s t h x = let r = in-turn-accepted f s t h x in record { gt = r .gt; read = r .read }
-
 pub accounts : Accounts
 accounts =
     record {
       there = kinds-there;
       judged = accepted-in-turn;
-      accepted = turns-accepted;
+      accepted = in-turn-accepted;
       site-block = site-in-turn;
       genotype-block = format-in-turn;
       fetched = found-numbered;
@@ -48,4 +42,5 @@ accounts =
       gt-fetched = gt-fetched;
       gt-none = gt-none;
       shown = shown-fetched;
+      elements = shownAt-same;
     }

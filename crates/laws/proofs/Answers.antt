@@ -6,15 +6,31 @@ use native.Mathlib.Omega.{arith}
 use lib.ListN.{length, length-append, length-replicate}
 use lib.Seq.{take-at}
 use native.Mathlib.Nat.{mod-eq-of-lt}
-use borrow.Author.Tests.{le-ltb}
+use borrow.Author.Tests.{lt-ltb, le-ltb}
+use Rattle.words.specs.Words.{Bytes}
+use Rattle.values.specs.Answers.{refusal}
+use Rattle.values.specs.Values.{present, described}
+use Rattle.fixed.specs.Layout.{chromAt, posAt, rlenAt, qualAt, countsAt, peopleAt}
+use Rattle.fixed.specs.declared.Facts.{Facts}
+use Rattle.fixed.specs.declared.Site.{Site}
+use Rattle.genotypes.specs.declared.Gt.{Gt}
+use Rattle.record.specs.Reading.{reading}
+use Rattle.record.specs.declared.Reading.the-variants.{Accepted}
+use Rattle.record.proofs.Accepted.{accepted-fits}
+use Rattle.fetch.specs.Fields.{alone}
+use Rattle.fetch.specs.Account.{fieldsOf, siteKinds, siteFields, genotypeFields, account, ofKind, numbered}
+use Rattle.fetch.specs.Fetch.{fieldOf, found}
+use Rattle.fetch.specs.declared.Kind.{Kind}
+use Rattle.fetch.specs.declared.Found.the-variants.{Refused as NoField}
+use Rattle.chosen.proofs.Stored.{field-bound}
 use Rattle.build.specs.Order.{rank}
 use Rattle.build.specs.Turns.{freshState}
 use Rattle.build.specs.declared.Stage.{Stage}
 use Rattle.build.specs.declared.Stage.the-variants.{Fresh, Begun, Named, Alleles, Filtered, Infos, Formats, Ended}
 use Rattle.build.specs.declared.Builder.{Builder}
-use Rattle.told.specs.Told.{answer}
+use Rattle.told.specs.Told.{answer, siteNumbers, siteTold, emptySite}
 use Rattle.kept.specs.Kept.{stageOf, stateNumbers, stateOf}
-use Rattle.laws.specs.Answers.{Ranges, Answers}
+use Rattle.laws.specs.Answers.{Ranges, SiteRanges, Answers}
 
 number-told : (n low : ℕ) → answer n low / 4294967296 ≡ n
 unfolding answer
@@ -46,6 +62,44 @@ fresh-ranges : Ranges freshState
 unfolding freshState
 fresh-ranges = record { alleles = omega arith; infos = omega arith; formats = omega arith; keys = length-replicate {A = ℕ} 256 0 }
 
+site-back : (t : Site) (g : Gt) (rest : List ℕ) → SiteRanges t → siteTold (siteNumbers t g ++ rest) ≡ t
+unfolding siteTold
+site-back t g rest r =
+    let room : 13 ≤ length (siteNumbers t g ++ rest) = omega arith in
+    rw (le-ltb _ _ room, mod-eq-of-lt (r .chrom), mod-eq-of-lt (r .pos), mod-eq-of-lt (r .rlen), mod-eq-of-lt (r .qual), mod-eq-of-lt (r .alleles), mod-eq-of-lt (r .infos), mod-eq-of-lt (r .formats), mod-eq-of-lt (r .people))
+
+-- a fixed field is a number of four bytes, and a count is a part of one
+site-ranges : (f : Facts) (s : List ℕ) (t : Site) (g : Gt) → Bytes s → reading f s ≡ Accepted t g → SiteRanges t
+site-ranges f s t g b h =
+    let fits = accepted-fits f s t g h in
+    let long : 32 ≤ length s = omega (arith, fits .border, fits .whole, fits .there, fits .site) in
+    let counts = field-bound countsAt s b (omega arith) in
+    let members = field-bound peopleAt s b (omega arith) in
+    record {
+      chrom = rw (fits .chrom) at (field-bound chromAt s b (omega arith));
+      pos = rw (fits .pos) at (field-bound posAt s b (omega arith));
+      rlen = rw (fits .rlen) at (field-bound rlenAt s b (omega arith));
+      qual = rw (fits .qual) at (field-bound qualAt s b (omega arith));
+      alleles = omega (arith, counts, fits .alleles);
+      infos = omega (arith, counts, fits .infos);
+      formats = omega (arith, members, fits .formats);
+      people = omega (arith, members, fits .people);
+    }
+
+told-again : (f : Facts) (s : List ℕ) (t : Site) (g : Gt) (rest : List ℕ) (kind : Kind) (number : ℕ) → Bytes s → reading f s ≡ Accepted t g
+    → fieldOf kind number (siteTold (siteNumbers t g ++ rest)) s ≡ found f kind number s
+unfolding found
+told-again f s t g rest kind number b h = rw (site-back t g rest (site-ranges f s t g b h), h)
+
+-- both blocks of the empty site are empty, so the first value is cut short
+empty-none : (kind : Kind) (number : ℕ) (s : List ℕ) → fieldOf kind number emptySite s ≡ NoField (refusal 16 0)
+unfolding fieldOf numbered ofKind account siteFields genotypeFields siteKinds fieldsOf alone present described
+empty-none kind number s = refl
+
+few-none : (ns s : List ℕ) (kind : Kind) (number : ℕ) → length ns < 13 → fieldOf kind number (siteTold ns) s ≡ NoField (refusal 16 0)
+unfolding siteTold
+few-none ns s kind number h = rw (lt-ltb _ _ h) (empty-none kind number s)
+
 pub promises-fix : Answers
 promises-fix =
     record {
@@ -55,4 +109,8 @@ promises-fix =
       low = low-told;
       fresh = fresh-ranges;
       state = state-back;
+      site = site-back;
+      ranges = site-ranges;
+      again = told-again;
+      few = few-none;
     }

@@ -33,15 +33,11 @@ use Rattle.bare.proofs.Account.{shownOf-ones}
 use Rattle.bare.proofs.Records.{lies, reads-ones}
 use Rattle.bare.proofs.Tight.{tight-ones}
 use Rattle.laws.specs.Bare.{Bare}
-use Rattle.laws.specs.Choosing.{Accepts}
 
 nobody-called : (f : Facts) (s : List ℕ) (t : Site) (g : Gt) → reading f s ≡ Accepted t g → g .code ≡ 0 → t .alleles ≤ 64
     → tallied f s ≡ record { answer = Counted t; calls = nobody (t .people) }
 unfolding tallied callsOf
 nobody-called f s t g h e few = rw (h, le-ltb 64 (t .alleles) few, gt-empty f s t g h e)
-
-accepts : (f : Facts) (s : List ℕ) (t : Site) (g : Gt) → reading f s ≡ Accepted t g → Accepts f (withOnes t s) t
-accepts f s t g h = let r = reads-ones f s t g h in record { gt = r .gt; read = r .read }
 
 as-long : (f : Facts) (s : List ℕ) (t : Site) (g : Gt) → reading f s ≡ Accepted t g → length (withOnes t s) ≡ length s
 as-long f s t g h = lies f s t (accepted-fits f s t g h) .length-same
@@ -93,7 +89,7 @@ bare =
       without = nobody-called;
       bytes = λ f s t g h. withOnes-kept f s t (accepted-fits f s t g h);
       none-left = none-left;
-      accepted = accepts;
+      accepted = reads-ones;
       as-long = as-long;
       shows = shownOf-ones;
       again = again;

@@ -21,11 +21,10 @@ use Rattle.fetch.specs.Fetch.{fieldOf, found}
 use Rattle.fetch.specs.declared.Kind.{Kind}
 use Rattle.fetch.specs.declared.Kind.the-variants.{Info, Format}
 use Rattle.fetch.specs.declared.Found.the-variants.{Field}
-use Rattle.fetched.specs.InTurn.{judging, inTurn, InTurn, gtIn, formatsInTurn, withGt}
+use Rattle.fetched.specs.InTurn.{judging, inTurn, InTurn, Accepts, gtIn, formatsInTurn, withGt}
 use Rattle.walker.specs.Walk.{asPair, pairAt, opened, walkedTo}
 use Rattle.walker.specs.declared.Opening.the-variants.{First}
-use Rattle.contents.specs.Fetched.{ShownFetched}
-use Rattle.laws.specs.Choosing.{Accepts}
+use Rattle.contents.specs.Fetched.{shownAt, ShownFetched}
 
 pub record Accounts : Type 0 where
   -- of an accepted record every part is there: ID, as many alleles as it says, FILTER, as many INFO pairs, as many FORMAT fields
@@ -55,3 +54,5 @@ pub record Accounts : Type 0 where
       → ((n code len place stop : ℕ) → found f Format n s ≢ Field (f .gt) code len place stop) → g ≡ noGt
   -- what a record shows is what is fetched of it: keys, lengths and elements of every kind and number, and as many as the counts say
   pub shown : (f : Facts) (s : List ℕ) (t : Site) (g : Gt) → reading f s ≡ Accepted t g → ShownFetched f s t
+  -- and elements that are answered the same at every index are the same elements
+  pub elements : (xs ys : List ℕ) → ((i : ℕ) → shownAt xs i ≡ shownAt ys i) → xs ≡ ys

@@ -1,13 +1,23 @@
 -- Promises fix answers. The promise of every public function is an equation, between what it answers, or what a lent buffer holds
 -- afterwards, and a definition of what it was given; so two answers that meet it are equal. And what is told to other languages in numbers
--- can be read from them. Rests on told and kept for what is told.
+-- can be read from them, so that a record that was read once is fetched from without reading it again. Rests on told and kept for what is told.
 use Prim.Native.Nat.{ℕ, _/_, _%_, _<_}
 use mathlib.Core.Path.{_≡_}
 use mathlib.Core.List.{List, _++_}
 use lib.ListN.{length}
+use Rattle.words.specs.Words.{Bytes}
+use Rattle.values.specs.Answers.{refusal}
+use Rattle.fixed.specs.declared.Facts.{Facts}
+use Rattle.fixed.specs.declared.Site.{Site}
+use Rattle.genotypes.specs.declared.Gt.{Gt}
+use Rattle.record.specs.Reading.{reading}
+use Rattle.record.specs.declared.Reading.the-variants.{Accepted}
+use Rattle.fetch.specs.Fetch.{fieldOf, found}
+use Rattle.fetch.specs.declared.Kind.{Kind}
+use Rattle.fetch.specs.declared.Found.the-variants.{Refused as NoField}
 use Rattle.build.specs.Turns.{freshState}
 use Rattle.build.specs.declared.Builder.{Builder}
-use Rattle.told.specs.Told.{answer}
+use Rattle.told.specs.Told.{answer, siteNumbers, siteTold}
 use Rattle.kept.specs.Kept.{stateNumbers, stateOf}
 
 -- the fields of a builder are in their ranges, as they are in every state that code holds
@@ -16,6 +26,17 @@ pub record Ranges (st : Builder) : Type 0 where
   pub infos : st .infos < 65536
   pub formats : st .formats < 256
   pub keys : length (st .keys) ≡ 256
+
+-- so are those of a site; its length and border are whatever they are
+pub record SiteRanges (t : Site) : Type 0 where
+  pub chrom : t .chrom < 4294967296
+  pub pos : t .pos < 4294967296
+  pub rlen : t .rlen < 4294967296
+  pub qual : t .qual < 4294967296
+  pub alleles : t .alleles < 65536
+  pub infos : t .infos < 65536
+  pub formats : t .formats < 256
+  pub people : t .people < 4294967296
 
 pub record Answers : Type 1 where
   -- two answers that meet a promise are equal, of whatever kind: a number, an enum, a struct, a list of bytes
@@ -29,3 +50,12 @@ pub record Answers : Type 1 where
   -- the numbers of a state hold that state, whatever stands behind them; a fresh one is in its ranges
   pub fresh : Ranges freshState
   pub state : (st : Builder) (rest : List ℕ) → Ranges st → stateOf (stateNumbers st ++ rest) ≡ st
+  -- the numbers that reading tells hold its site, whatever stands behind them; an accepted record's is in its ranges
+  pub site : (t : Site) (g : Gt) (rest : List ℕ) → SiteRanges t → siteTold (siteNumbers t g ++ rest) ≡ t
+  pub ranges : (f : Facts) (s : List ℕ) (t : Site) (g : Gt) → Bytes s → reading f s ≡ Accepted t g → SiteRanges t
+  -- so by those numbers a record gives the fields that fetching gives
+  pub again : (f : Facts) (s : List ℕ) (t : Site) (g : Gt) (rest : List ℕ) (kind : Kind) (number : ℕ) → Bytes s
+      → reading f s ≡ Accepted t g → fieldOf kind number (siteTold (siteNumbers t g ++ rest)) s ≡ found f kind number s
+  -- in fewer than 13 numbers there is no field, not even ID or FILTER
+  pub few : (ns s : List ℕ) (kind : Kind) (number : ℕ) → length ns < 13
+      → fieldOf kind number (siteTold ns) s ≡ NoField (refusal 16 0)

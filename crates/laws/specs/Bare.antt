@@ -26,7 +26,7 @@ use Rattle.tally.specs.declared.Counting.the-variants.{Counted}
 use Rattle.built.specs.Builds.{Tight, Builds}
 use Rattle.bare.specs.Empty.{Empty}
 use Rattle.bare.specs.Ones.{sameOrOne, withOnes}
-use Rattle.laws.specs.Choosing.{Accepts}
+use Rattle.fetched.specs.InTurn.{Accepts}
 
 pub record Bare : Type 0 where
   -- 00 where a FILTER, INFO or FORMAT value stands, GT included: type 0, length 0, and the place just after it

@@ -12,6 +12,7 @@ use Rattle.fixed.specs.declared.Site.{Site}
 use Rattle.genotypes.specs.declared.Gt.{Gt}
 use Rattle.record.specs.Reading.{reading}
 use Rattle.record.specs.declared.Reading.the-variants.{Accepted}
+use Rattle.fetched.specs.InTurn.{Accepts}
 use Rattle.contents.specs.Contents.{shownOf}
 use Rattle.calls.specs.Totals.{together}
 use Rattle.tally.specs.Tally.{tallied}
@@ -27,11 +28,6 @@ pub record Choice (f : Facts) (s : List ℕ) (t : Site) (g : Gt) (cs : List ℕ)
   pub bytes : Bytes s
   pub read : reading f s ≡ Accepted t g
   pub ascends : ascending (t .people) cs ≡ true
-
--- a record is accepted, and its site is known
-pub record Accepts (f : Facts) (s : List ℕ) (t : Site) : Type 0 where
-  pub gt : Gt
-  pub read : reading f s ≡ Accepted t gt
 
 -- two tallies are counted, and add up to a third
 pub record AddUp (f : Facts) (s : List ℕ) (fa : Facts) (a : List ℕ) (fb : Facts) (b : List ℕ) : Type 0 where

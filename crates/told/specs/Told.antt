@@ -1,9 +1,9 @@
--- An answer told in one number, and what an accepted answer holds as a list of numbers. Rests on the answers of reading, fetching, showing,
--- tallying, choosing and walking.
+-- An answer told in one number, and what an accepted answer holds as a list of numbers; and the site that reading's numbers hold. Rests on the
+-- answers of reading, fetching, showing, tallying, choosing and walking.
 use Prim.Native.Nat.{ℕ, _+_, _-_, _*_, _%_}
 use mathlib.Core.List.{List, [], _∷_}
 use lib.Dec.{ltb}
-use lib.ListN.{length}
+use lib.ListN.{length, getD}
 use Rattle.words.specs.Pick.{pick}
 use Rattle.stores.specs.Stores.{filled}
 use Rattle.values.specs.declared.Refusal.{Refusal}
@@ -42,6 +42,27 @@ abbrev pub siteNumbers : Site → Gt → List ℕ
 siteNumbers t g =
     t .length ∷ t .border ∷ t .chrom ∷ t .pos ∷ t .rlen ∷ t .qual ∷ t .alleles ∷ t .infos ∷ t .formats ∷ t .people
     ∷ g .code ∷ g .len ∷ g .first ∷ []
+
+-- the other way: the site that such numbers hold, each as far as its field's type goes. Fewer than 13 hold one whose blocks are empty: ID and FILTER
+-- are counted in every site, but nothing stands there, so no field is found
+abbrev pub emptySite : Site
+emptySite = record { length = 0; border = 0; chrom = 0; pos = 0; rlen = 0; qual = 0; alleles = 0; infos = 0; formats = 0; people = 0 }
+
+unfoldable pub siteTold : List ℕ → Site
+siteTold ns =
+    pick (ltb (length ns) 13) emptySite
+    (record {
+      length = getD ns 0 0;
+      border = getD ns 1 0;
+      chrom = getD ns 2 0 % 4294967296;
+      pos = getD ns 3 0 % 4294967296;
+      rlen = getD ns 4 0 % 4294967296;
+      qual = getD ns 5 0 % 4294967296;
+      alleles = getD ns 6 0 % 65536;
+      infos = getD ns 7 0 % 65536;
+      formats = getD ns 8 0 % 256;
+      people = getD ns 9 0 % 4294967296;
+    })
 
 abbrev pub readingAnswer : ℕ → Reading → ℕ
 readingAnswer room (Unread r) = refusedAnswer r

@@ -1,11 +1,11 @@
 // An answer told to a caller of another language: one u64 with a refusal's number in its high half and, in its low half, the refusal's
-// place or, with number 0, a length; and what an accepted answer holds, as numbers in a lent slice. Rests on the answers of reading,
-// fetching, showing, tallying, choosing and walking.
+// place or, with number 0, a length; and what an accepted answer holds, as numbers in a lent slice. And back: the site that reading's numbers
+// hold. Rests on the answers of reading, fetching, showing, tallying, choosing and walking.
 ghost use mathlib.Core.Path.{_≡_};
 ghost use Prim.Native.Nat.{_-_};
 ghost use lib.ListN.{length};
 ghost use Rattle.stores.specs.Stores.{filled};
-ghost use Rattle.told.specs.Told.{answer, refusedAnswer, toldAnswer, readingAnswer, readingNumbers, foundAnswer, foundNumbers, pairAnswer, pairNumbers, openingAnswer, shownAnswer, talliedAnswer, talliedNumbers, countingAnswer, countingNumbers, choosingAnswer};
+ghost use Rattle.told.specs.Told.{answer, refusedAnswer, toldAnswer, siteTold, emptySite, readingAnswer, readingNumbers, foundAnswer, foundNumbers, pairAnswer, pairNumbers, openingAnswer, shownAnswer, talliedAnswer, talliedNumbers, countingAnswer, countingNumbers, choosingAnswer};
 ghost use Rattle.fetch.specs.declared.Found.the-variants.{Field};
 ghost use Rattle.tally.specs.declared.Counting.the-variants.{Counted};
 use calls::Calls;
@@ -99,6 +99,45 @@ pub fn tell_reading(r: Reading, out: &mut [u64]) -> u64
         gt.first as u64,
     ];
     tell(out, &numbers, site.length)
+}
+
+// A site in which no field stands: both its blocks are empty.
+fn empty_site() -> Site
+    ensures { λ r. ⌜ r ≡ emptySite ⌝ }
+{
+    Site {
+        length: 0,
+        border: 0,
+        chrom: 0,
+        pos: 0,
+        rlen: 0,
+        qual: 0,
+        alleles: 0,
+        infos: 0,
+        formats: 0,
+        people: 0,
+    }
+}
+
+// The site that numbers hold, as reading told them; too few hold one in which no field stands.
+pub fn site_told(numbers: &[u64]) -> Site
+    ensures { λ r. ⌜ r ≡ siteTold (now (numbers .entry)) ⌝ }
+{
+    if numbers.len() < 13 {
+        return empty_site();
+    }
+    Site {
+        length: numbers[0] as usize,
+        border: numbers[1] as usize,
+        chrom: (numbers[2] % 4294967296) as u32,
+        pos: (numbers[3] % 4294967296) as u32,
+        rlen: (numbers[4] % 4294967296) as u32,
+        qual: (numbers[5] % 4294967296) as u32,
+        alleles: (numbers[6] % 65536) as u16,
+        infos: (numbers[7] % 65536) as u16,
+        formats: (numbers[8] % 256) as u8,
+        people: (numbers[9] % 4294967296) as u32,
+    }
 }
 
 // Tells a field: its key, type, length, the place of its first element and the place after its last.

@@ -15,6 +15,7 @@ use crate::rebuild;
 use crate::record::{set_lengths, Key, Record, Value};
 use crate::report::Report;
 use crate::shape::{facts, people_vectors, record, record_of};
+use crate::sites::{compare_others, compare_own};
 use crate::turns::compare_turns;
 
 /// Makes and compares the case of a number.
@@ -41,6 +42,7 @@ fn compare_all(report: &mut Report, input: &Input, random: &mut Random) -> Optio
     let site = compare_record(report, input);
     compare_tally(report, input);
     compare_fetches(report, input, random, &site);
+    compare_others(report, input, random, &site);
     compare_walk(report, input);
     compare_pairs(report, input, random);
     compare_choices(report, input, random, site.is_ok());
@@ -141,10 +143,13 @@ fn large_record(report: &mut Report, random: &mut Random) {
         _ => fill(random, &mut record),
     }
     let input = Input { facts, bytes: record.lay().bytes };
-    compare_record(report, &input).ok();
+    let site = compare_record(report, &input);
     compare_tally(report, &input);
     compare_walk(report, &input);
-    (0..KINDS.len()).for_each(|kind| compare_fetch(report, &input, random, kind, 0));
+    for kind in 0..KINDS.len() {
+        compare_fetch(report, &input, random, kind, 0);
+        site.iter().for_each(|site| compare_own(report, &input, site, kind, random.below(65_536) as u32));
+    }
     compare_choices(report, &input, random, false);
 }
 

@@ -14,6 +14,7 @@ mod rebuild;
 mod record;
 mod report;
 mod shape;
+mod sites;
 mod turns;
 
 use std::panic::{catch_unwind, AssertUnwindSafe};

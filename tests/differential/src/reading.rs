@@ -7,6 +7,7 @@ use crate::damage::Input;
 use crate::input::{ours, plains, some};
 use crate::random::Random;
 use crate::report::{Answer, Report};
+use crate::sites::{compare_own, compare_own_walk};
 
 pub const KINDS: [(Kind, Plain); 5] = [
     (Kind::ID, Plain::Id),
@@ -26,7 +27,7 @@ pub fn compare_record(report: &mut Report, input: &Input) -> Answer<sikalumdo::S
 /// Whether any value of an accepted record is a bare 00.
 fn has_bare(input: &Input, site: &sikalumdo::Site) -> bool {
     let is_bare = |kind: Kind, number: u32| {
-        sikalumdo::fetch(&input.bytes, &input.facts, kind, number).is_ok_and(|field| field.code == 0)
+        sikalumdo::field_of(&input.bytes, site, kind, number).is_ok_and(|field| field.code == 0)
     };
     let mut pairs = sikalumdo::pairs(&input.bytes, &input.facts).into_iter().flatten();
     is_bare(Kind::FILTER, 0)
@@ -96,7 +97,12 @@ pub fn compare_fetches(report: &mut Report, input: &Input, random: &mut Random, 
         numbers.sort();
         numbers.dedup();
         let few = if site.is_ok() { numbers.len() } else { 2 };
-        numbers[..few].iter().for_each(|&number| compare_fetch(report, input, random, kind, number));
+        for &number in &numbers[..few] {
+            compare_fetch(report, input, random, kind, number);
+            if let Ok(site) = site {
+                compare_own(report, input, site, kind, number);
+            }
+        }
     }
     for kind in [5, 6, random.next() as u32 | 8] {
         let ours = ours(sikalumdo::fetch(&input.bytes, &input.facts, Kind(kind), random.below(3) as u32));
@@ -145,6 +151,7 @@ pub fn compare_walk(report: &mut Report, input: &Input) {
     let is_open = opened.as_ref().map(|_| ()).map_err(|&refusal| refusal);
     report.compare(input, "pairs", format_args!(""), &is_open, &start.map(|_| ()));
     let (Ok(mut walker), Ok(start)) = (opened, start) else { return };
+    compare_own_walk(report, input);
     let mut at = start as usize;
     let mut after_end = 0;
     while after_end < 2 {

@@ -58,8 +58,9 @@ pub(crate) fn value(block: &[u8], at: usize, usage: u8, vectors: u32) -> Result<
         15 => true_length(block, at + 1)?,
         short => (u32::from(short), at + 1),
     };
-    // Taken in 64 bits: 24 bits of people, 31 of length and 2 of width.
-    let bytes = u64::from(vectors) * u64::from(len) * row.width as u64;
+    // Taken in 64 bits: people of at most 32 and a length of 31 have 63. What would pass 64 with the width passes the
+    // block, too; no record has so many people, but whoever fetches by numbers of their own may say so.
+    let bytes = (u64::from(vectors) * u64::from(len)).saturating_mul(row.width as u64);
     if bytes > (block.len() - first) as u64 {
         return Err(past(block));
     }

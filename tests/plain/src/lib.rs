@@ -23,7 +23,7 @@ pub use build::{Builder, Turn};
 pub use choose::choose;
 pub use elements::shown;
 pub use facts::Facts;
-pub use fetch::{fetch, Field, Kind};
+pub use fetch::{fetch, field_of, Field, Kind};
 pub use genotype::{call, Call};
 pub use read::{read, Site};
 pub use refusal::Refusal;

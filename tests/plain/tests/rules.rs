@@ -1,7 +1,9 @@
 //! Cases that the vectors don't reach: document 01's marked examples, long lists, the limits of sizes and counts, and
 //! the bare 00 at every descriptor.
 
-use plain::{call, choose, fetch, info_start, pair_at, read, shown, tally, Builder, Call, Facts, Kind, Refusal};
+use plain::{
+    call, choose, fetch, field_of, info_start, pair_at, read, shown, tally, Builder, Call, Facts, Kind, Refusal,
+};
 
 const FACTS: Facts = Facts { strings: 4, contigs: 1, people: 2, gt: 3 };
 const MISSING: i32 = i32::MIN;
@@ -402,4 +404,50 @@ fn empty_values_built() {
     assert_eq!(buf[38], 0x05);
     after_filter.clone().info_text(&mut buf, 2, b"").unwrap();
     assert_eq!(buf[38], 0x07);
+}
+
+const KINDS: [Kind; 5] = [Kind::Id, Kind::Allele, Kind::Filter, Kind::Info, Kind::Format];
+
+#[test]
+fn fields_by_what_reading_told() {
+    let told = [50, 43, 0, 14_369, 1, 0x41E8_0000, 2, 1, 1, 2, 1, 2, 46, 0xA5];
+    for (kind, count) in KINDS.into_iter().zip([1, 2, 1, 1, 1]) {
+        for number in 0..count + 2 {
+            let wanted = fetch(&sample(), &FACTS, kind, number);
+            assert_eq!((field_of(&sample(), &told, kind, number), wanted.is_ok()), (wanted, number < count));
+        }
+        assert_eq!(field_of(&sample(), &told[..12], kind, 0), refused(16, 0));
+    }
+}
+
+/// Each number of a site in turn, and all of them, where it leads: 16, or a field that is there.
+#[test]
+fn fields_by_other_numbers() {
+    let told = [50, 43, 0, 14_369, 1, 0x41E8_0000, 2, 1, 1, 2, 1, 2, 46];
+    for number in [0, 1, 32, 45, 51, 256, 65_536, u32::MAX.into(), 1 << 32, u64::MAX] {
+        for index in 0..=told.len() {
+            let mut other = told;
+            other.iter_mut().enumerate().filter(|(at, _)| *at == index || index == 13).for_each(|(_, n)| *n = number);
+            for (kind, n) in KINDS.into_iter().zip(0..3).chain([(Kind::Format, 0), (Kind::Info, 0), (Kind::Id, 0)]) {
+                match field_of(&sample(), &other, kind, n) {
+                    Ok(field) => assert!(field.first <= field.stop && field.stop <= 50),
+                    refusal => assert_eq!(refusal, refused(16, 0)),
+                }
+            }
+        }
+    }
+    // 257 FORMAT fields are one in 8 bits, and of one person.
+    let mut one = told;
+    (one[8], one[9]) = (257, 1);
+    assert_eq!(field_of(&sample(), &one, Kind::Format, 0).map(|field| (field.first, field.stop)), Ok((46, 48)));
+}
+
+/// The most people with the longest vectors of four bytes pass any block.
+#[test]
+fn more_than_64_bits_of_elements() {
+    let mut record = sample();
+    record.truncate(45);
+    record.extend([0xF3, 0x13, 0xFF, 0xFF, 0xFF, 0x7F, 0x00, 0x00]);
+    let told = [53, 43, 0, 0, 0, 0, 2, 1, 1, u32::MAX.into(), 0, 0, 0];
+    assert_eq!(field_of(&record, &told, Kind::Format, 0), refused(16, 0));
 }

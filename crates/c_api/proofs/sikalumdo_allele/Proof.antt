@@ -13,27 +13,27 @@ use Rattle.build.proofs.allele.Reads as allele-reads
 use Rattle.kept.proofs.keep.Reads as keep-reads
 use Rattle.kept.proofs.state_of.Reads as state-of-reads
 
--- src/lib.rt:236:27
+-- src/lib.rt:257:27
 state-of-requires : tie.Need-state-of-requires
 state-of-requires c κs = search needs
 
--- src/lib.rt:236:9
+-- src/lib.rt:257:9
 allele-requires : tie.Need-allele-requires
 allele-requires c κs = search needs
 
--- src/lib.rt:237:5
+-- src/lib.rt:258:5
 keep-requires : tie.Need-keep-requires
 keep-requires c κs = search needs
 
--- src/lib.rt:230:1
+-- src/lib.rt:251:1
 same-length : tie.Need-same-length
 same-length c = search needs
 
--- src/lib.rt:230:1
+-- src/lib.rt:251:1
 same-length-2 : tie.Need-same-length-2
 same-length-2 c = search needs
 
--- src/lib.rt:230:1
+-- src/lib.rt:251:1
 returns : tie.Need-returns
 returns c =
     let a = c .before .before .before .before .before .before .before .before .before .before .before .before .before .args in

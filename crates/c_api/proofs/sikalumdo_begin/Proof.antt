@@ -17,27 +17,27 @@ use Rattle.build.proofs.begin.Reads as begin-reads
 use Rattle.kept.proofs.keep.Reads as keep-reads
 use Rattle.kept.proofs.state_of.Reads as state-of-reads
 
--- src/lib.rt:214:26
+-- src/lib.rt:235:26
 state-of-requires : tie.Need-state-of-requires
 state-of-requires c κs = search needs
 
--- src/lib.rt:214:9
+-- src/lib.rt:235:9
 begin-requires : tie.Need-begin-requires
 begin-requires c κs = search needs
 
--- src/lib.rt:215:5
+-- src/lib.rt:236:5
 keep-requires : tie.Need-keep-requires
 keep-requires c κs = search needs
 
--- src/lib.rt:191:1
+-- src/lib.rt:212:1
 same-length : tie.Need-same-length
 same-length c = search needs
 
--- src/lib.rt:191:1
+-- src/lib.rt:212:1
 same-length-2 : tie.Need-same-length-2
 same-length-2 c = search needs
 
--- src/lib.rt:191:1
+-- src/lib.rt:212:1
 returns : tie.Need-returns
 returns c =
     let a = c .before .before .before .before .before .before .before .before .before .before .before .before .args in

@@ -9,19 +9,19 @@ use Rattle.c_api.proofs.sikalumdo_choose.Lts as lts
 use Rattle.choose.proofs.choose.Reads as choose-reads
 use Rattle.told.proofs.tell_choosing.Reads as tell-choosing-reads
 
--- src/lib.rt:149:25
+-- src/lib.rt:170:25
 choose-requires : tie.Need-choose-requires
 choose-requires c κs = search needs
 
--- src/lib.rt:149:5
+-- src/lib.rt:170:5
 tell-choosing-requires : tie.Need-tell-choosing-requires
 tell-choosing-requires c κs = search needs
 
--- src/lib.rt:130:1
+-- src/lib.rt:151:1
 same-length : tie.Need-same-length
 same-length c = search needs
 
--- src/lib.rt:130:1
+-- src/lib.rt:151:1
 returns : tie.Need-returns
 returns c =
     (c .tell-choosing .ensures ∙ ap choosingAnswer (c .before .before .before .choose .ensures .0), c .before .before .before .choose .ensures .1 .1)

@@ -13,27 +13,27 @@ use Rattle.build.proofs.end.Reads as end-reads
 use Rattle.kept.proofs.keep.Reads as keep-reads
 use Rattle.kept.proofs.state_of.Reads as state-of-reads
 
--- src/lib.rt:357:24
+-- src/lib.rt:378:24
 state-of-requires : tie.Need-state-of-requires
 state-of-requires c κs = search needs
 
--- src/lib.rt:357:9
+-- src/lib.rt:378:9
 end-requires : tie.Need-end-requires
 end-requires c κs = search needs
 
--- src/lib.rt:358:5
+-- src/lib.rt:379:5
 keep-requires : tie.Need-keep-requires
 keep-requires c κs = search needs
 
--- src/lib.rt:351:1
+-- src/lib.rt:372:1
 same-length : tie.Need-same-length
 same-length c = search needs
 
--- src/lib.rt:351:1
+-- src/lib.rt:372:1
 same-length-2 : tie.Need-same-length-2
 same-length-2 c = search needs
 
--- src/lib.rt:351:1
+-- src/lib.rt:372:1
 returns : tie.Need-returns
 returns c =
     let a = c .before .before .before .before .before .before .before .before .before .before .before .before .args in

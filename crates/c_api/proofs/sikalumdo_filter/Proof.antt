@@ -16,27 +16,27 @@ use Rattle.build.proofs.filter.Reads as filter-reads
 use Rattle.kept.proofs.keep.Reads as keep-reads
 use Rattle.kept.proofs.state_of.Reads as state-of-reads
 
--- src/lib.rt:247:27
+-- src/lib.rt:268:27
 state-of-requires : tie.Need-state-of-requires
 state-of-requires c κs = search needs
 
--- src/lib.rt:247:9
+-- src/lib.rt:268:9
 filter-requires : tie.Need-filter-requires
 filter-requires c κs = search needs
 
--- src/lib.rt:248:5
+-- src/lib.rt:269:5
 keep-requires : tie.Need-keep-requires
 keep-requires c κs = search needs
 
--- src/lib.rt:241:1
+-- src/lib.rt:262:1
 same-length : tie.Need-same-length
 same-length c = search needs
 
--- src/lib.rt:241:1
+-- src/lib.rt:262:1
 same-length-2 : tie.Need-same-length-2
 same-length-2 c = search needs
 
--- src/lib.rt:241:1
+-- src/lib.rt:262:1
 returns : tie.Need-returns
 returns c =
     let a = c .before .before .before .before .before .before .before .before .before .before .before .before .args in

@@ -9,15 +9,15 @@ use Rattle.c_api.proofs.sikalumdo_first_pair.Lts as lts
 use Rattle.told.proofs.tell_opening.Reads as tell-opening-reads
 use Rattle.walker.proofs.opening_of.Reads as opening-of-reads
 
--- src/lib.rt:169:24
+-- src/lib.rt:190:24
 opening-of-requires : tie.Need-opening-of-requires
 opening-of-requires c κs = search needs
 
--- src/lib.rt:169:5
+-- src/lib.rt:190:5
 tell-opening-requires : tie.Need-tell-opening-requires
 tell-opening-requires c κs = search needs
 
--- src/lib.rt:153:1
+-- src/lib.rt:174:1
 returns : tie.Need-returns
 returns c =
     c .tell-opening .ensures ∙ ap openingAnswer (c .before .opening-of .ensures)

@@ -17,27 +17,27 @@ use Rattle.build.proofs.format_floats.Reads as format-floats-reads
 use Rattle.kept.proofs.keep.Reads as keep-reads
 use Rattle.kept.proofs.state_of.Reads as state-of-reads
 
--- src/lib.rt:329:34
+-- src/lib.rt:350:34
 state-of-requires : tie.Need-state-of-requires
 state-of-requires c κs = search needs
 
--- src/lib.rt:329:9
+-- src/lib.rt:350:9
 format-floats-requires : tie.Need-format-floats-requires
 format-floats-requires c κs = search needs
 
--- src/lib.rt:330:5
+-- src/lib.rt:351:5
 keep-requires : tie.Need-keep-requires
 keep-requires c κs = search needs
 
--- src/lib.rt:317:1
+-- src/lib.rt:338:1
 same-length : tie.Need-same-length
 same-length c = search needs
 
--- src/lib.rt:317:1
+-- src/lib.rt:338:1
 same-length-2 : tie.Need-same-length-2
 same-length-2 c = search needs
 
--- src/lib.rt:317:1
+-- src/lib.rt:338:1
 returns : tie.Need-returns
 returns c =
     let a = c .before .before .before .before .before .before .before .before .before .before .before .before .before .args in

@@ -18,27 +18,27 @@ use Rattle.build.proofs.format_integers.Reads as format-integers-reads
 use Rattle.kept.proofs.keep.Reads as keep-reads
 use Rattle.kept.proofs.state_of.Reads as state-of-reads
 
--- src/lib.rt:312:36
+-- src/lib.rt:333:36
 state-of-requires : tie.Need-state-of-requires
 state-of-requires c κs = search needs
 
--- src/lib.rt:312:9
+-- src/lib.rt:333:9
 format-integers-requires : tie.Need-format-integers-requires
 format-integers-requires c κs = search needs
 
--- src/lib.rt:313:5
+-- src/lib.rt:334:5
 keep-requires : tie.Need-keep-requires
 keep-requires c κs = search needs
 
--- src/lib.rt:300:1
+-- src/lib.rt:321:1
 same-length : tie.Need-same-length
 same-length c = search needs
 
--- src/lib.rt:300:1
+-- src/lib.rt:321:1
 same-length-2 : tie.Need-same-length-2
 same-length-2 c = search needs
 
--- src/lib.rt:300:1
+-- src/lib.rt:321:1
 returns : tie.Need-returns
 returns c =
     let a = c .before .before .before .before .before .before .before .before .before .before .before .before .args in

@@ -17,27 +17,27 @@ use Rattle.build.proofs.format_text.Reads as format-text-reads
 use Rattle.kept.proofs.keep.Reads as keep-reads
 use Rattle.kept.proofs.state_of.Reads as state-of-reads
 
--- src/lib.rt:346:32
+-- src/lib.rt:367:32
 state-of-requires : tie.Need-state-of-requires
 state-of-requires c κs = search needs
 
--- src/lib.rt:346:9
+-- src/lib.rt:367:9
 format-text-requires : tie.Need-format-text-requires
 format-text-requires c κs = search needs
 
--- src/lib.rt:347:5
+-- src/lib.rt:368:5
 keep-requires : tie.Need-keep-requires
 keep-requires c κs = search needs
 
--- src/lib.rt:334:1
+-- src/lib.rt:355:1
 same-length : tie.Need-same-length
 same-length c = search needs
 
--- src/lib.rt:334:1
+-- src/lib.rt:355:1
 same-length-2 : tie.Need-same-length-2
 same-length-2 c = search needs
 
--- src/lib.rt:334:1
+-- src/lib.rt:355:1
 returns : tie.Need-returns
 returns c =
     let a = c .before .before .before .before .before .before .before .before .before .before .before .before .before .args in

@@ -13,27 +13,27 @@ use Rattle.build.proofs.id.Reads as id-reads
 use Rattle.kept.proofs.keep.Reads as keep-reads
 use Rattle.kept.proofs.state_of.Reads as state-of-reads
 
--- src/lib.rt:225:23
+-- src/lib.rt:246:23
 state-of-requires : tie.Need-state-of-requires
 state-of-requires c κs = search needs
 
--- src/lib.rt:225:9
+-- src/lib.rt:246:9
 id-requires : tie.Need-id-requires
 id-requires c κs = search needs
 
--- src/lib.rt:226:5
+-- src/lib.rt:247:5
 keep-requires : tie.Need-keep-requires
 keep-requires c κs = search needs
 
--- src/lib.rt:219:1
+-- src/lib.rt:240:1
 same-length : tie.Need-same-length
 same-length c = search needs
 
--- src/lib.rt:219:1
+-- src/lib.rt:240:1
 same-length-2 : tie.Need-same-length-2
 same-length-2 c = search needs
 
--- src/lib.rt:219:1
+-- src/lib.rt:240:1
 returns : tie.Need-returns
 returns c =
     let a = c .before .before .before .before .before .before .before .before .before .before .before .before .before .args in

@@ -17,27 +17,27 @@ use Rattle.build.proofs.info_floats.Reads as info-floats-reads
 use Rattle.kept.proofs.keep.Reads as keep-reads
 use Rattle.kept.proofs.state_of.Reads as state-of-reads
 
--- src/lib.rt:279:32
+-- src/lib.rt:300:32
 state-of-requires : tie.Need-state-of-requires
 state-of-requires c κs = search needs
 
--- src/lib.rt:279:9
+-- src/lib.rt:300:9
 info-floats-requires : tie.Need-info-floats-requires
 info-floats-requires c κs = search needs
 
--- src/lib.rt:280:5
+-- src/lib.rt:301:5
 keep-requires : tie.Need-keep-requires
 keep-requires c κs = search needs
 
--- src/lib.rt:268:1
+-- src/lib.rt:289:1
 same-length : tie.Need-same-length
 same-length c = search needs
 
--- src/lib.rt:268:1
+-- src/lib.rt:289:1
 same-length-2 : tie.Need-same-length-2
 same-length-2 c = search needs
 
--- src/lib.rt:268:1
+-- src/lib.rt:289:1
 returns : tie.Need-returns
 returns c =
     let a = c .before .before .before .before .before .before .before .before .before .before .before .before .before .args in

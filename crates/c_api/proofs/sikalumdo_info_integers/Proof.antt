@@ -18,27 +18,27 @@ use Rattle.build.proofs.info_integers.Reads as info-integers-reads
 use Rattle.kept.proofs.keep.Reads as keep-reads
 use Rattle.kept.proofs.state_of.Reads as state-of-reads
 
--- src/lib.rt:263:34
+-- src/lib.rt:284:34
 state-of-requires : tie.Need-state-of-requires
 state-of-requires c κs = search needs
 
--- src/lib.rt:263:9
+-- src/lib.rt:284:9
 info-integers-requires : tie.Need-info-integers-requires
 info-integers-requires c κs = search needs
 
--- src/lib.rt:264:5
+-- src/lib.rt:285:5
 keep-requires : tie.Need-keep-requires
 keep-requires c κs = search needs
 
--- src/lib.rt:252:1
+-- src/lib.rt:273:1
 same-length : tie.Need-same-length
 same-length c = search needs
 
--- src/lib.rt:252:1
+-- src/lib.rt:273:1
 same-length-2 : tie.Need-same-length-2
 same-length-2 c = search needs
 
--- src/lib.rt:252:1
+-- src/lib.rt:273:1
 returns : tie.Need-returns
 returns c =
     let a = c .before .before .before .before .before .before .before .before .before .before .before .before .args in

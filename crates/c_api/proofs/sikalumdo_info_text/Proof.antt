@@ -17,27 +17,27 @@ use Rattle.build.proofs.info_text.Reads as info-text-reads
 use Rattle.kept.proofs.keep.Reads as keep-reads
 use Rattle.kept.proofs.state_of.Reads as state-of-reads
 
--- src/lib.rt:295:30
+-- src/lib.rt:316:30
 state-of-requires : tie.Need-state-of-requires
 state-of-requires c κs = search needs
 
--- src/lib.rt:295:9
+-- src/lib.rt:316:9
 info-text-requires : tie.Need-info-text-requires
 info-text-requires c κs = search needs
 
--- src/lib.rt:296:5
+-- src/lib.rt:317:5
 keep-requires : tie.Need-keep-requires
 keep-requires c κs = search needs
 
--- src/lib.rt:284:1
+-- src/lib.rt:305:1
 same-length : tie.Need-same-length
 same-length c = search needs
 
--- src/lib.rt:284:1
+-- src/lib.rt:305:1
 same-length-2 : tie.Need-same-length-2
 same-length-2 c = search needs
 
--- src/lib.rt:284:1
+-- src/lib.rt:305:1
 returns : tie.Need-returns
 returns c =
     let a = c .before .before .before .before .before .before .before .before .before .before .before .before .before .args in

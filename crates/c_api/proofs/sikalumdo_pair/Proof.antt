@@ -9,19 +9,19 @@ use Rattle.c_api.proofs.sikalumdo_pair.Lts as lts
 use Rattle.told.proofs.tell_pair.Reads as tell-pair-reads
 use Rattle.walker.proofs.pair_at.Reads as pair-at-reads
 
--- src/lib.rt:178:21
+-- src/lib.rt:199:21
 pair-at-requires : tie.Need-pair-at-requires
 pair-at-requires c κs = search needs
 
--- src/lib.rt:178:5
+-- src/lib.rt:199:5
 tell-pair-requires : tie.Need-tell-pair-requires
 tell-pair-requires c κs = search needs
 
--- src/lib.rt:173:1
+-- src/lib.rt:194:1
 same-length : tie.Need-same-length
 same-length c = search needs
 
--- src/lib.rt:173:1
+-- src/lib.rt:194:1
 returns : tie.Need-returns
 returns c =
     let e = c .before .before .before .before .pair-at .ensures in

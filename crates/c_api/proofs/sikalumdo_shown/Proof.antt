@@ -9,15 +9,15 @@ use Rattle.c_api.proofs.sikalumdo_shown.Lts as lts
 use Rattle.elements.proofs.element_at.Reads as element-at-reads
 use Rattle.told.proofs.tell_shown.Reads as tell-shown-reads
 
--- src/lib.rt:104:22
+-- src/lib.rt:125:22
 element-at-requires : tie.Need-element-at-requires
 element-at-requires c κs = search needs
 
--- src/lib.rt:104:5
+-- src/lib.rt:125:5
 tell-shown-requires : tie.Need-tell-shown-requires
 tell-shown-requires c κs = search needs
 
--- src/lib.rt:100:1
+-- src/lib.rt:121:1
 returns : tie.Need-returns
 returns c =
     c .tell-shown .ensures ∙ ap shownAnswer (c .before .element-at .ensures)

@@ -9,19 +9,19 @@ use Rattle.c_api.proofs.sikalumdo_tally.Lts as lts
 use Rattle.tally.proofs.tally.Reads as tally-reads
 use Rattle.told.proofs.tell_tally.Reads as tell-tally-reads
 
--- src/lib.rt:126:22
+-- src/lib.rt:147:22
 tally-requires : tie.Need-tally-requires
 tally-requires c κs = search needs
 
--- src/lib.rt:126:5
+-- src/lib.rt:147:5
 tell-tally-requires : tie.Need-tell-tally-requires
 tell-tally-requires c κs = search needs
 
--- src/lib.rt:108:1
+-- src/lib.rt:129:1
 same-length : tie.Need-same-length
 same-length c = search needs
 
--- src/lib.rt:108:1
+-- src/lib.rt:129:1
 returns : tie.Need-returns
 returns c =
     let e = c .before .before .before .before .tally .ensures in

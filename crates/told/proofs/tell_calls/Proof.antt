@@ -16,11 +16,11 @@ use Rattle.told.proofs.tell_calls.Lts as lts
 use Rattle.told.proofs.answer_of.Reads as answer-of-reads
 use Rattle.told.proofs.put_numbers.Reads as put-numbers-reads
 
--- src/lib.rt:179:9
+-- src/lib.rt:218:9
 answer-of-requires : tie.Need-answer-of-requires
 answer-of-requires c κs = search needs
 
--- src/lib.rt:179:9
+-- src/lib.rt:218:9
 returns : tie.Need-returns
 returns c =
     let q = c .before .if1 .taken in
@@ -29,39 +29,39 @@ returns c =
     let h : length (a .out .now) < length (tallyNumbers (a .site) (a .calls)) = omega (arith, q, k) in
     (c .answer-of .ensures ∙ sym (told-short _ _ _ h), sym (filled-short _ 0 _ (omega (arith, h))))
 
--- src/lib.rt:181:18
+-- src/lib.rt:220:18
 cast-t8 : tie.Need-cast-t8
 cast-t8 c = search needs
 
--- src/lib.rt:181:39
+-- src/lib.rt:220:39
 cast-t9 : tie.Need-cast-t9
 cast-t9 c = search needs
 
--- src/lib.rt:183:25
+-- src/lib.rt:222:25
 slice-aggregate-put-numbers : tie.Need-slice-aggregate-put-numbers
 slice-aggregate-put-numbers c = search needs
 
--- src/lib.rt:183:5
+-- src/lib.rt:222:5
 put-numbers-requires : tie.Need-put-numbers-requires
 put-numbers-requires c κs = search needs
 
--- src/lib.rt:184:25
+-- src/lib.rt:223:25
 slice-aggregate-put-numbers-2 : tie.Need-slice-aggregate-put-numbers-2
 slice-aggregate-put-numbers-2 c = search needs
 
--- src/lib.rt:184:5
+-- src/lib.rt:223:5
 put-numbers-requires-2 : tie.Need-put-numbers-requires-2
 put-numbers-requires-2 c κs = search needs
 
--- src/lib.rt:185:5
+-- src/lib.rt:224:5
 answer-of-requires-2 : tie.Need-answer-of-requires-2
 answer-of-requires-2 c κs = search needs
 
--- src/lib.rt:174:1
+-- src/lib.rt:213:1
 same-length : tie.Need-same-length
 same-length c = search needs
 
--- src/lib.rt:174:1
+-- src/lib.rt:213:1
 returns-2 : tie.Need-returns-2
 returns-2 c =
     let q = c .before .before .before .before .before .before .before .before .before .before .before .before .before .before .if1 .left in

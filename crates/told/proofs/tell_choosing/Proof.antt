@@ -7,28 +7,28 @@ use Rattle.told.proofs.tell_choosing.Lts as lts
 use Rattle.told.proofs.answer_of.Reads as answer-of-reads
 use Rattle.told.proofs.refused_answer.Reads as refused-answer-reads
 
--- src/lib.rt:205:26
+-- src/lib.rt:244:26
 enum-known-c : tie.Need-enum-known-c
 enum-known-c c = search needs
 
--- src/lib.rt:205:32
+-- src/lib.rt:244:32
 answer-of-requires : tie.Need-answer-of-requires
 answer-of-requires c κs = search needs
 
--- src/lib.rt:206:27
+-- src/lib.rt:245:27
 enum-known-c-2 : tie.Need-enum-known-c-2
 enum-known-c-2 c = search needs
 
--- src/lib.rt:206:33
+-- src/lib.rt:245:33
 refused-answer-requires : tie.Need-refused-answer-requires
 refused-answer-requires c κs = search needs
 
--- src/lib.rt:201:1
+-- src/lib.rt:240:1
 -- fill: b77a7863
 returns : tie.Need-returns
 returns c = simp (c .before .before .c .given .1, c .answer-of .ensures)
 
--- src/lib.rt:201:1
+-- src/lib.rt:240:1
 -- fill: a5b4261e
 returns-2 : tie.Need-returns-2
 returns-2 c = simp (c .before .before .c2 .given .1, c .refused-answer .ensures)

@@ -9,23 +9,23 @@ use Rattle.told.proofs.tell_field.Lts as lts
 use Rattle.told.proofs.distance.Reads as distance-reads
 use Rattle.told.proofs.tell.Reads as tell-reads
 
--- src/lib.rt:116:15
+-- src/lib.rt:155:15
 slice-aggregate-tell : tie.Need-slice-aggregate-tell
 slice-aggregate-tell c = search needs
 
--- src/lib.rt:116:25
+-- src/lib.rt:155:25
 distance-requires : tie.Need-distance-requires
 distance-requires c κs = search needs
 
--- src/lib.rt:116:5
+-- src/lib.rt:155:5
 tell-requires : tie.Need-tell-requires
 tell-requires c κs = search needs
 
--- src/lib.rt:105:1
+-- src/lib.rt:144:1
 same-length : tie.Need-same-length
 same-length c = search needs
 
--- src/lib.rt:105:1
+-- src/lib.rt:144:1
 returns : tie.Need-returns
 returns c =
     (c .before .before .tell .ensures .0 ∙ ap (toldAnswer _ _) (c .before .before .before .distance .ensures), c .before .before .tell .ensures .1)

@@ -7,32 +7,32 @@ use Rattle.told.proofs.tell_found.Lts as lts
 use Rattle.told.proofs.refused_answer.Reads as refused-answer-reads
 use Rattle.told.proofs.tell_field.Reads as tell-field-reads
 
--- src/lib.rt:126:13
+-- src/lib.rt:165:13
 enum-known-f : tie.Need-enum-known-f
 enum-known-f c = search needs
 
--- src/lib.rt:131:14
+-- src/lib.rt:170:14
 tell-field-requires : tie.Need-tell-field-requires
 tell-field-requires c κs = search needs
 
--- src/lib.rt:132:24
+-- src/lib.rt:171:24
 enum-known-f-2 : tie.Need-enum-known-f-2
 enum-known-f-2 c = search needs
 
--- src/lib.rt:132:30
+-- src/lib.rt:171:30
 refused-answer-requires : tie.Need-refused-answer-requires
 refused-answer-requires c κs = search needs
 
--- src/lib.rt:120:1
+-- src/lib.rt:159:1
 same-length : tie.Need-same-length
 same-length c = search needs
 
--- src/lib.rt:120:1
+-- src/lib.rt:159:1
 returns : tie.Need-returns
 returns c =
     (rw (c .before .before .before .before .before .f .given .1) (c .before .before .tell-field .ensures .0), rw (c .before .before .before .before .before .f .given .1) (c .before .before .tell-field .ensures .1))
 
--- src/lib.rt:120:1
+-- src/lib.rt:159:1
 returns-2 : tie.Need-returns-2
 returns-2 c =
     (rw (c .before .before .f2 .given .1) (c .refused-answer .ensures), rw (c .before .before .f2 .given .1))

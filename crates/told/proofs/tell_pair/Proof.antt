@@ -7,32 +7,32 @@ use Rattle.told.proofs.tell_pair.Lts as lts
 use Rattle.told.proofs.answer_of.Reads as answer-of-reads
 use Rattle.told.proofs.tell_field.Reads as tell-field-reads
 
--- src/lib.rt:143:13
+-- src/lib.rt:182:13
 enum-known-p : tie.Need-enum-known-p
 enum-known-p c = search needs
 
--- src/lib.rt:148:14
+-- src/lib.rt:187:14
 tell-field-requires : tie.Need-tell-field-requires
 tell-field-requires c κs = search needs
 
--- src/lib.rt:149:22
+-- src/lib.rt:188:22
 enum-told : tie.Need-enum-told
 enum-told c = search needs
 
--- src/lib.rt:149:22
+-- src/lib.rt:188:22
 answer-of-requires : tie.Need-answer-of-requires
 answer-of-requires c κs = search needs
 
--- src/lib.rt:137:1
+-- src/lib.rt:176:1
 same-length : tie.Need-same-length
 same-length c = search needs
 
--- src/lib.rt:137:1
+-- src/lib.rt:176:1
 returns : tie.Need-returns
 returns c =
     (rw (c .before .before .before .before .before .p .given .1) (c .before .before .tell-field .ensures .0), rw (c .before .before .before .before .before .p .given .1) (c .before .before .tell-field .ensures .1))
 
--- src/lib.rt:137:1
+-- src/lib.rt:176:1
 returns-2 : tie.Need-returns-2
 returns-2 c =
     (rw (c .before .enum-told .given .1) (c .answer-of .ensures), rw (c .before .enum-told .given .1))

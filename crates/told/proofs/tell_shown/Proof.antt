@@ -6,32 +6,32 @@ use Rattle.told.proofs.tell_shown.Reads as reads
 use Rattle.told.proofs.tell_shown.Lts as lts
 use Rattle.told.proofs.answer_of.Reads as answer-of-reads
 
--- src/lib.rt:168:21
+-- src/lib.rt:207:21
 enum-known-e : tie.Need-enum-known-e
 enum-known-e c = search needs
 
--- src/lib.rt:168:40
+-- src/lib.rt:207:40
 cast-answer-of : tie.Need-cast-answer-of
 cast-answer-of c = search needs
 
--- src/lib.rt:168:27
+-- src/lib.rt:207:27
 answer-of-requires : tie.Need-answer-of-requires
 answer-of-requires c κs = search needs
 
--- src/lib.rt:169:27
+-- src/lib.rt:208:27
 enum-told : tie.Need-enum-told
 enum-told c = search needs
 
--- src/lib.rt:169:27
+-- src/lib.rt:208:27
 answer-of-requires-2 : tie.Need-answer-of-requires-2
 answer-of-requires-2 c κs = search needs
 
--- src/lib.rt:164:1
+-- src/lib.rt:203:1
 -- fill: de49d73b
 returns : tie.Need-returns
 returns c = simp (c .before .before .e .given .1, c .answer-of .ensures)
 
--- src/lib.rt:164:1
+-- src/lib.rt:203:1
 -- fill: 03fa8999
 returns-2 : tie.Need-returns-2
 returns-2 c = simp (c .before .enum-told .given .1, c .answer-of2 .ensures)

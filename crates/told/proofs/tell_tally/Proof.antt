@@ -7,32 +7,32 @@ use Rattle.told.proofs.tell_tally.Lts as lts
 use Rattle.told.proofs.refused_answer.Reads as refused-answer-reads
 use Rattle.told.proofs.tell_calls.Reads as tell-calls-reads
 
--- src/lib.rt:195:27
+-- src/lib.rt:234:27
 enum-known-answer : tie.Need-enum-known-answer
 enum-known-answer c = search needs
 
--- src/lib.rt:195:36
+-- src/lib.rt:234:36
 tell-calls-requires : tie.Need-tell-calls-requires
 tell-calls-requires c κs = search needs
 
--- src/lib.rt:196:27
+-- src/lib.rt:235:27
 enum-known-answer-2 : tie.Need-enum-known-answer-2
 enum-known-answer-2 c = search needs
 
--- src/lib.rt:196:33
+-- src/lib.rt:235:33
 refused-answer-requires : tie.Need-refused-answer-requires
 refused-answer-requires c κs = search needs
 
--- src/lib.rt:189:1
+-- src/lib.rt:228:1
 same-length : tie.Need-same-length
 same-length c = search needs
 
--- src/lib.rt:189:1
+-- src/lib.rt:228:1
 returns : tie.Need-returns
 returns c =
     (rw (c .before .before .before .before .before .answer .given .1) (c .before .before .tell-calls .ensures .0), rw (c .before .before .before .before .before .answer .given .1) (c .before .before .tell-calls .ensures .1))
 
--- src/lib.rt:189:1
+-- src/lib.rt:228:1
 returns-2 : tie.Need-returns-2
 returns-2 c =
     (rw (c .before .before .answer2 .given .1) (c .refused-answer .ensures), rw (c .before .before .answer2 .given .1))
