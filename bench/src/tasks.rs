@@ -48,7 +48,9 @@ pub fn fetching(name: &'static str, record: Record) -> Task {
     };
     let plain = || {
         let numbers = told(&plain::read(black_box(&bytes), &plain_facts).expect("an accepted record"));
-        (0..fields).map(|n| plain::field_of(&bytes, &numbers, plain::Kind::Format, n).expect("a field").stop).sum::<u32>()
+        (0..fields)
+            .map(|n| plain::field_of(&bytes, &numbers, plain::Kind::Format, n).expect("a field").stop)
+            .sum::<u32>()
     };
     assert_eq!(ours(), plain());
     let times = by_turns(ours, plain);
