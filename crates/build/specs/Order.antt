@@ -1,14 +1,14 @@
--- Turns: their order, and what a turn answers and writes. Rests on append for the number of what is wrong and for the buffer afterwards.
+-- Turns: their order, and what a turn answers and writes. Rests on build_append for the number of what is wrong and for the buffer afterwards.
 use Prim.Native.Nat.{ℕ}
 use mathlib.Core.List.{List}
 use lib.Dec.{eqb}
 use lib.ListN.{length}
 use Rattle.words.specs.Pick.{pick}
 use Rattle.values.specs.Answers.{refusal}
-use Rattle.append.specs.Append.{writtenTo}
-use Rattle.rules.specs.Rules.{ordered}
-unfoldable pub use Rattle.rules.specs.Rules.{countNumber, reachNumber}
-unfoldable pub use Rattle.append.specs.Append.{firstOf, roomNumber}
+use Rattle.build_append.specs.Append.{writtenTo}
+use Rattle.build_rules.specs.Rules.{ordered}
+unfoldable pub use Rattle.build_rules.specs.Rules.{countNumber, reachNumber}
+unfoldable pub use Rattle.build_append.specs.Append.{firstOf, roomNumber}
 use Rattle.build.specs.declared.Stage.{Stage}
 use Rattle.build.specs.declared.Stage.the-variants.{Fresh, Begun, Named, Alleles, Filtered, Infos, Formats, Ended}
 use Rattle.build.specs.declared.Builder.{Builder}

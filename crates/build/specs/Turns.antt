@@ -12,13 +12,13 @@ use Rattle.fixed.specs.Layout.{idAt}
 use Rattle.fixed.specs.declared.Facts.{Facts}
 use Rattle.genotypes.specs.Formats.{roleOf}
 use Rattle.record.specs.Shown.{Kind, integers, floats, text}
-use Rattle.front.specs.Front.{fieldsFilled}
-unfoldable pub use Rattle.front.specs.Front.{fieldsNumber, frontBytes}
-use Rattle.append.specs.Append.{firstOf}
-use Rattle.append.specs.Values.{givenBytes, pairBytes}
-use Rattle.rules.specs.Rules.{wrongBegin, wrongId, wrongAllele, wrongFilter, wrongInfo, wrongFormat, wrongEnd, formatOrder}
-use Rattle.rules.specs.Values.{givenAs, any, givenNumber}
-unfoldable pub use Rattle.rules.specs.Rules.{keyNumber, peopleNumber, repeatNumber, gtNumber, listNumber, formatKey, formatShape}
+use Rattle.build_front.specs.Front.{fieldsFilled}
+unfoldable pub use Rattle.build_front.specs.Front.{fieldsNumber, frontBytes}
+use Rattle.build_append.specs.Append.{firstOf}
+use Rattle.build_append.specs.Values.{givenBytes, pairBytes}
+use Rattle.build_rules.specs.Rules.{wrongBegin, wrongId, wrongAllele, wrongFilter, wrongInfo, wrongFormat, wrongEnd, formatOrder}
+use Rattle.build_rules.specs.Values.{givenAs, any, givenNumber}
+unfoldable pub use Rattle.build_rules.specs.Rules.{keyNumber, peopleNumber, repeatNumber, gtNumber, listNumber, formatKey, formatShape}
 use Rattle.build.specs.Order.{rank, turned, appended, afterwards}
 use Rattle.build.specs.declared.Stage.{Stage}
 use Rattle.build.specs.declared.Stage.the-variants.{Fresh, Begun, Named, Alleles, Filtered, Infos, Formats, Ended}

@@ -1,6 +1,6 @@
 // Building a record, turn by turn: begin, ID, one or more alleles, FILTER, INFO fields, FORMAT fields, end, over a lent buffer and a state
-// that goes in by value and comes back by value. Rests on rules for what is wrong with a turn and on append and
-// front for what is written.
+// that goes in by value and comes back by value. Rests on build_rules for what is wrong with a turn and on build_append and
+// build_front for what is written.
 ghost use mathlib.Core.List.{map};
 ghost use mathlib.Core.Path.{_≡_};
 ghost use Prim.Native.Nat.{_+_, _<_, _≤_};
@@ -13,9 +13,9 @@ ghost use Rattle.genotypes.specs.Formats.{roleOf};
 ghost use Rattle.record.specs.Shown.{integers, floats, text};
 ghost use Rattle.build.specs.Order.{rank, turned};
 ghost use Rattle.build.specs.Turns.{inSite, inGenotypes, idGiven, afterId, alleleGiven, afterAllele, filterGiven, afterFilter, infoGiven, afterInfo, formatGiven, afterFormat, freshState, begunState, begun, afterBegin, infoKey, formatFront, movedTo, built, afterEnd};
-use append::Field;
-use append::Written;
-use append::first_of;
+use build_append::Field;
+use build_append::Written;
+use build_append::first_of;
 use fixed::Facts;
 use values::Refusal;
 
@@ -142,9 +142,9 @@ pub fn begin(
     let l = words::bits(rlen);
     let stage = state.stage;
     let rank = rank_of(stage);
-    let number = rules::begin_number(rank, buf.len(), facts, c, p, l, qual);
+    let number = build_rules::begin_number(rank, buf.len(), facts, c, p, l, qual);
     if number == 0 {
-        front::put_front(buf, c, p, l, qual);
+        build_front::put_front(buf, c, p, l, qual);
         return answered(state, number, begun_state(facts));
     }
     answered(state, number, state)
@@ -176,10 +176,10 @@ pub fn end(state: Builder, buf: &mut [u8]) -> Turned
 {
     let stage = state.stage;
     let rank = rank_of(stage);
-    let number = rules::end_number(rank, buf.len());
+    let number = build_rules::end_number(rank, buf.len());
     if number == 0 {
         let people = state.facts.people;
-        front::fill_in(
+        build_front::fill_in(
             buf,
             state.border,
             state.at,
@@ -257,9 +257,9 @@ pub fn id(state: Builder, buf: &mut [u8], part: &[u8]) -> Turned
 {
     let stage = state.stage;
     let rank = rank_of(stage);
-    let rules = rules::id_number(rank, part);
+    let rules = build_rules::id_number(rank, part);
     let alone = Field::Alone;
-    let done = append::append_text(buf, state.at, rules, alone, part);
+    let done = build_append::append_text(buf, state.at, rules, alone, part);
     let last = Stage::Named;
     site_turn(state, done, last, 0, 0)
 }
@@ -271,9 +271,9 @@ pub fn allele(state: Builder, buf: &mut [u8], part: &[u8]) -> Turned
 {
     let stage = state.stage;
     let rank = rank_of(stage);
-    let rules = rules::allele_number(rank, state.alleles, part);
+    let rules = build_rules::allele_number(rank, state.alleles, part);
     let alone = Field::Alone;
-    let done = append::append_text(buf, state.at, rules, alone, part);
+    let done = build_append::append_text(buf, state.at, rules, alone, part);
     let last = Stage::Alleles;
     site_turn(state, done, last, 1, 0)
 }
@@ -285,9 +285,9 @@ pub fn filter(state: Builder, buf: &mut [u8], values: &[i32]) -> Turned
 {
     let stage = state.stage;
     let rank = rank_of(stage);
-    let rules = rules::filter_number(rank, state.facts.strings, values);
+    let rules = build_rules::filter_number(rank, state.facts.strings, values);
     let alone = Field::Alone;
-    let done = append::append_integers(buf, state.at, rules, alone, values);
+    let done = build_append::append_integers(buf, state.at, rules, alone, values);
     let last = Stage::Filtered;
     site_turn(state, done, last, 0, 0)
 }
@@ -296,7 +296,7 @@ pub fn filter(state: Builder, buf: &mut [u8], values: &[i32]) -> Turned
 fn info_key(stage: Stage, infos: u16, strings: u32, key: u32) -> u32
     ensures { λ r. ⌜ r ≡ infoKey stage infos strings key ⌝ }
 {
-    rules::info_number(rank_of(stage), infos, strings, key)
+    build_rules::info_number(rank_of(stage), infos, strings, key)
 }
 
 // INFO with integers.
@@ -309,10 +309,10 @@ pub fn info_integers(state: Builder, buf: &mut [u8], key: i32, values: &[i32]) -
     let sound = info_key(stage, state.infos, state.facts.strings, k);
     let rules = first_of(
         sound,
-        given::judge_integers(values, values.len(), 0xFFFFFFFF),
+        build_given::judge_integers(values, values.len(), 0xFFFFFFFF),
     );
     let field = Field::Info(k);
-    let done = append::append_integers(buf, state.at, rules, field, values);
+    let done = build_append::append_integers(buf, state.at, rules, field, values);
     let last = Stage::Infos;
     site_turn(state, done, last, 0, 1)
 }
@@ -325,9 +325,9 @@ pub fn info_floats(state: Builder, buf: &mut [u8], key: i32, bits: &[u32]) -> Tu
     let k = words::bits(key);
     let stage = state.stage;
     let sound = info_key(stage, state.infos, state.facts.strings, k);
-    let rules = first_of(sound, given::judge_floats(bits, bits.len()));
+    let rules = first_of(sound, build_given::judge_floats(bits, bits.len()));
     let field = Field::Info(k);
-    let done = append::append_floats(buf, state.at, rules, field, bits);
+    let done = build_append::append_floats(buf, state.at, rules, field, bits);
     let last = Stage::Infos;
     site_turn(state, done, last, 0, 1)
 }
@@ -340,9 +340,9 @@ pub fn info_text(state: Builder, buf: &mut [u8], key: i32, part: &[u8]) -> Turne
     let k = words::bits(key);
     let stage = state.stage;
     let sound = info_key(stage, state.infos, state.facts.strings, k);
-    let rules = first_of(sound, given::judge_text(part, part.len()));
+    let rules = first_of(sound, build_given::judge_text(part, part.len()));
     let field = Field::Info(k);
-    let done = append::append_text(buf, state.at, rules, field, part);
+    let done = build_append::append_text(buf, state.at, rules, field, part);
     let last = Stage::Infos;
     site_turn(state, done, last, 0, 1)
 }
@@ -356,7 +356,7 @@ fn format_number(state: Builder, key: u32, whole: bool, len: u32, count: usize) 
     let facts = state.facts;
     let keys = state.keys;
     let n = state.formats as usize;
-    rules::format_number(
+    build_rules::format_number(
         rank,
         facts,
         state.formats,
@@ -386,9 +386,9 @@ pub fn format_integers(state: Builder, buf: &mut [u8], key: i32, len: u32, value
     let k = words::bits(key);
     let front = format_number(state, k, true, len, values.len());
     let most = most_for(state.facts.gt, k, state.alleles);
-    let rules = first_of(front, given::judge_integers(values, len as usize, most));
+    let rules = first_of(front, build_given::judge_integers(values, len as usize, most));
     let field = Field::Format(k, len);
-    let done = append::append_integers(buf, state.at, rules, field, values);
+    let done = build_append::append_integers(buf, state.at, rules, field, values);
     format_turn(state, done, k)
 }
 
@@ -399,9 +399,9 @@ pub fn format_floats(state: Builder, buf: &mut [u8], key: i32, len: u32, bits: &
 {
     let k = words::bits(key);
     let front = format_number(state, k, false, len, bits.len());
-    let rules = first_of(front, given::judge_floats(bits, len as usize));
+    let rules = first_of(front, build_given::judge_floats(bits, len as usize));
     let field = Field::Format(k, len);
-    let done = append::append_floats(buf, state.at, rules, field, bits);
+    let done = build_append::append_floats(buf, state.at, rules, field, bits);
     format_turn(state, done, k)
 }
 
@@ -412,8 +412,8 @@ pub fn format_text(state: Builder, buf: &mut [u8], key: i32, len: u32, part: &[u
 {
     let k = words::bits(key);
     let front = format_number(state, k, false, len, part.len());
-    let rules = first_of(front, given::judge_text(part, len as usize));
+    let rules = first_of(front, build_given::judge_text(part, len as usize));
     let field = Field::Format(k, len);
-    let done = append::append_text(buf, state.at, rules, field, part);
+    let done = build_append::append_text(buf, state.at, rules, field, part);
     format_turn(state, done, k)
 }

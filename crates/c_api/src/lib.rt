@@ -1,6 +1,6 @@
 // The functions that other languages call, by the C calling convention: numbers and lent slices in, one u64 out. Its high half is the number of
-// a refusal; its low half is the refusal's place or, with number 0, a length. A refusal writes nothing. Rests on told for answers and on
-// kept for the state of a build; the format's rules are in the crates below.
+// a refusal; its low half is the refusal's place or, with number 0, a length. A refusal writes nothing. Rests on c_answers for answers and on
+// c_state for the state of a build; the format's rules are in the crates below.
 ghost use mathlib.Core.Path.{_≡_};
 ghost use mathlib.Core.List.{map};
 ghost use lib.ListN.{length};
@@ -14,8 +14,8 @@ ghost use Rattle.tally.specs.Tally.{tallied};
 ghost use Rattle.choose.specs.Choose.{choosing, afterChoosing};
 ghost use Rattle.walker.specs.Walk.{opened, pairAt};
 ghost use Rattle.build.specs.Turns.{begun, afterBegin, idGiven, afterId, alleleGiven, afterAllele, filterGiven, afterFilter, infoGiven, afterInfo, formatGiven, afterFormat, built, afterEnd};
-ghost use Rattle.told.specs.Told.{siteTold, readingAnswer, readingNumbers, foundAnswer, foundNumbers, pairAnswer, pairNumbers, openingAnswer, shownAnswer, talliedAnswer, talliedNumbers, choosingAnswer};
-ghost use Rattle.kept.specs.Kept.{stateOf, turnAnswer, turnNumbers, freshAnswer, freshNumbers};
+ghost use Rattle.c_answers.specs.Told.{siteTold, readingAnswer, readingNumbers, foundAnswer, foundNumbers, pairAnswer, pairNumbers, openingAnswer, shownAnswer, talliedAnswer, talliedNumbers, choosingAnswer};
+ghost use Rattle.c_state.specs.Kept.{stateOf, turnAnswer, turnNumbers, freshAnswer, freshNumbers};
 ghost use Rattle.c_api.specs.Given.{factsOf, kindOf, numberOf};
 use fetch::Kind;
 use fixed::Facts;
@@ -68,7 +68,7 @@ pub extern "C" fn sikalumdo_read(
         people,
         gt,
     };
-    told::tell_reading(record::read(s, facts), out)
+    c_answers::tell_reading(record::read(s, facts), out)
 }
 
 // Fetches the field of a kind and a number: the length of its elements' bytes; `out` gets 5 numbers.
@@ -93,7 +93,7 @@ pub extern "C" fn sikalumdo_fetch(
         gt,
     };
     let f = fetch::find(s, facts, kind_of(kind), number_of(kind, number));
-    told::tell_found(f, out)
+    c_answers::tell_found(f, out)
 }
 
 // Fetches from a record that was read, by the numbers that reading told: the record is not read again.
@@ -110,11 +110,11 @@ pub extern "C" fn sikalumdo_field_of(
 {
     let f = fetch::field_of(
         s,
-        told::site_told(site),
+        c_answers::site_told(site),
         kind_of(kind),
         number_of(kind, number),
     );
-    told::tell_found(f, out)
+    c_answers::tell_found(f, out)
 }
 
 // Shows an element of a fetched part by its 32 bits.
@@ -122,7 +122,7 @@ pub extern "C" fn sikalumdo_field_of(
 pub extern "C" fn sikalumdo_shown(part: &[u8], code: u8, index: usize) -> u64
     ensures { λ r. ⌜ r ≡ shownAnswer (elementAt code index (now (part .entry))) ⌝ }
 {
-    told::tell_shown(elements::element_at(part, code, index))
+    c_answers::tell_shown(elements::element_at(part, code, index))
 }
 
 // Tallies the record at the start of a slice: its length; `out` gets 68 numbers.
@@ -144,7 +144,7 @@ pub extern "C" fn sikalumdo_tally(
         people,
         gt,
     };
-    told::tell_tally(tally::tally(s, facts), out)
+    c_answers::tell_tally(tally::tally(s, facts), out)
 }
 
 // Chooses people: the chosen record's length; `buf` gets its bytes.
@@ -167,7 +167,7 @@ pub extern "C" fn sikalumdo_choose(
         people,
         gt,
     };
-    told::tell_choosing(choose::choose(s, facts, choice, buf))
+    c_answers::tell_choosing(choose::choose(s, facts, choice, buf))
 }
 
 // Opens the walk of the INFO pairs: the place of the first one.
@@ -187,7 +187,7 @@ pub extern "C" fn sikalumdo_first_pair(
         people,
         gt,
     };
-    told::tell_opening(walker::opening_of(s, facts))
+    c_answers::tell_opening(walker::opening_of(s, facts))
 }
 
 // The INFO pair at a place: the length of its elements' bytes; `out` gets 5 numbers, the last of them the next pair's place.
@@ -196,7 +196,7 @@ pub extern "C" fn sikalumdo_pair(s: &[u8], at: usize, out: &mut [u64]) -> u64
     ensures told { λ r. ⌜ r ≡ pairAnswer (length (now (out .entry))) (pairAt (now (s .entry)) at) ⌝ }
     ensures written { λ _. ⌜ now (out .exit) ≡ pairNumbers (now (out .entry)) (pairAt (now (s .entry)) at) ⌝ }
 {
-    told::tell_pair(walker::pair_at(s, at), out)
+    c_answers::tell_pair(walker::pair_at(s, at), out)
 }
 
 // Makes a fresh state in 266 numbers.
@@ -205,7 +205,7 @@ pub extern "C" fn sikalumdo_fresh(state: &mut [u32]) -> u64
     ensures told { λ r. ⌜ r ≡ freshAnswer (length (now (state .entry))) ⌝ }
     ensures written { λ _. ⌜ now (state .exit) ≡ freshNumbers (now (state .entry)) ⌝ }
 {
-    kept::put_fresh(state)
+    c_state::put_fresh(state)
 }
 
 // Begin: the bytes written so far, as every turn tells.
@@ -232,8 +232,8 @@ pub extern "C" fn sikalumdo_begin(
         people,
         gt,
     };
-    let t = build::begin(kept::state_of(state), buf, facts, chrom, pos, rlen, qual);
-    kept::keep(state, t)
+    let t = build::begin(c_state::state_of(state), buf, facts, chrom, pos, rlen, qual);
+    c_state::keep(state, t)
 }
 
 // ID.
@@ -243,8 +243,8 @@ pub extern "C" fn sikalumdo_id(state: &mut [u32], buf: &mut [u8], text: &[u8]) -
     ensures kept { λ _. ⌜ now (state .exit) ≡ turnNumbers (now (state .entry)) (idGiven (stateOf (now (state .entry))) (length (now (buf .entry))) (now (text .entry))) ⌝ }
     ensures written { λ _. ⌜ now (buf .exit) ≡ afterId (stateOf (now (state .entry))) (now (buf .entry)) (now (text .entry)) ⌝ }
 {
-    let t = build::id(kept::state_of(state), buf, text);
-    kept::keep(state, t)
+    let t = build::id(c_state::state_of(state), buf, text);
+    c_state::keep(state, t)
 }
 
 // One allele, the first of them the reference.
@@ -254,8 +254,8 @@ pub extern "C" fn sikalumdo_allele(state: &mut [u32], buf: &mut [u8], text: &[u8
     ensures kept { λ _. ⌜ now (state .exit) ≡ turnNumbers (now (state .entry)) (alleleGiven (stateOf (now (state .entry))) (length (now (buf .entry))) (now (text .entry))) ⌝ }
     ensures written { λ _. ⌜ now (buf .exit) ≡ afterAllele (stateOf (now (state .entry))) (now (buf .entry)) (now (text .entry)) ⌝ }
 {
-    let t = build::allele(kept::state_of(state), buf, text);
-    kept::keep(state, t)
+    let t = build::allele(c_state::state_of(state), buf, text);
+    c_state::keep(state, t)
 }
 
 // FILTER: offsets into the dictionary.
@@ -265,8 +265,8 @@ pub extern "C" fn sikalumdo_filter(state: &mut [u32], buf: &mut [u8], offsets: &
     ensures kept { λ _. ⌜ now (state .exit) ≡ turnNumbers (now (state .entry)) (filterGiven (stateOf (now (state .entry))) (length (now (buf .entry))) (map (ofZ w32) (now (offsets .entry)))) ⌝ }
     ensures written { λ _. ⌜ now (buf .exit) ≡ afterFilter (stateOf (now (state .entry))) (now (buf .entry)) (map (ofZ w32) (now (offsets .entry))) ⌝ }
 {
-    let t = build::filter(kept::state_of(state), buf, offsets);
-    kept::keep(state, t)
+    let t = build::filter(c_state::state_of(state), buf, offsets);
+    c_state::keep(state, t)
 }
 
 // An INFO field of integers.
@@ -281,8 +281,8 @@ pub extern "C" fn sikalumdo_info_integers(
     ensures kept { λ _. ⌜ now (state .exit) ≡ turnNumbers (now (state .entry)) (infoGiven (stateOf (now (state .entry))) (length (now (buf .entry))) (ofZ w32 key) integers (map (ofZ w32) (now (values .entry)))) ⌝ }
     ensures written { λ _. ⌜ now (buf .exit) ≡ afterInfo (stateOf (now (state .entry))) (now (buf .entry)) (ofZ w32 key) integers (map (ofZ w32) (now (values .entry))) ⌝ }
 {
-    let t = build::info_integers(kept::state_of(state), buf, key, values);
-    kept::keep(state, t)
+    let t = build::info_integers(c_state::state_of(state), buf, key, values);
+    c_state::keep(state, t)
 }
 
 // An INFO field of floats.
@@ -297,8 +297,8 @@ pub extern "C" fn sikalumdo_info_floats(
     ensures kept { λ _. ⌜ now (state .exit) ≡ turnNumbers (now (state .entry)) (infoGiven (stateOf (now (state .entry))) (length (now (buf .entry))) (ofZ w32 key) floats (now (bits .entry))) ⌝ }
     ensures written { λ _. ⌜ now (buf .exit) ≡ afterInfo (stateOf (now (state .entry))) (now (buf .entry)) (ofZ w32 key) floats (now (bits .entry)) ⌝ }
 {
-    let t = build::info_floats(kept::state_of(state), buf, key, bits);
-    kept::keep(state, t)
+    let t = build::info_floats(c_state::state_of(state), buf, key, bits);
+    c_state::keep(state, t)
 }
 
 // An INFO field of text.
@@ -313,8 +313,8 @@ pub extern "C" fn sikalumdo_info_text(
     ensures kept { λ _. ⌜ now (state .exit) ≡ turnNumbers (now (state .entry)) (infoGiven (stateOf (now (state .entry))) (length (now (buf .entry))) (ofZ w32 key) text (now (part .entry))) ⌝ }
     ensures written { λ _. ⌜ now (buf .exit) ≡ afterInfo (stateOf (now (state .entry))) (now (buf .entry)) (ofZ w32 key) text (now (part .entry)) ⌝ }
 {
-    let t = build::info_text(kept::state_of(state), buf, key, part);
-    kept::keep(state, t)
+    let t = build::info_text(c_state::state_of(state), buf, key, part);
+    c_state::keep(state, t)
 }
 
 // A FORMAT field of integers: a vector of `len` for each person, one after the other.
@@ -330,8 +330,8 @@ pub extern "C" fn sikalumdo_format_integers(
     ensures kept { λ _. ⌜ now (state .exit) ≡ turnNumbers (now (state .entry)) (formatGiven (stateOf (now (state .entry))) (length (now (buf .entry))) (ofZ w32 key) integers len (map (ofZ w32) (now (values .entry)))) ⌝ }
     ensures written { λ _. ⌜ now (buf .exit) ≡ afterFormat (stateOf (now (state .entry))) (now (buf .entry)) (ofZ w32 key) integers len (map (ofZ w32) (now (values .entry))) ⌝ }
 {
-    let t = build::format_integers(kept::state_of(state), buf, key, len, values);
-    kept::keep(state, t)
+    let t = build::format_integers(c_state::state_of(state), buf, key, len, values);
+    c_state::keep(state, t)
 }
 
 // A FORMAT field of floats: a vector of `len` for each person, one after the other.
@@ -347,8 +347,8 @@ pub extern "C" fn sikalumdo_format_floats(
     ensures kept { λ _. ⌜ now (state .exit) ≡ turnNumbers (now (state .entry)) (formatGiven (stateOf (now (state .entry))) (length (now (buf .entry))) (ofZ w32 key) floats len (now (bits .entry))) ⌝ }
     ensures written { λ _. ⌜ now (buf .exit) ≡ afterFormat (stateOf (now (state .entry))) (now (buf .entry)) (ofZ w32 key) floats len (now (bits .entry)) ⌝ }
 {
-    let t = build::format_floats(kept::state_of(state), buf, key, len, bits);
-    kept::keep(state, t)
+    let t = build::format_floats(c_state::state_of(state), buf, key, len, bits);
+    c_state::keep(state, t)
 }
 
 // A FORMAT field of text: a vector of `len` for each person, one after the other.
@@ -364,8 +364,8 @@ pub extern "C" fn sikalumdo_format_text(
     ensures kept { λ _. ⌜ now (state .exit) ≡ turnNumbers (now (state .entry)) (formatGiven (stateOf (now (state .entry))) (length (now (buf .entry))) (ofZ w32 key) text len (now (part .entry))) ⌝ }
     ensures written { λ _. ⌜ now (buf .exit) ≡ afterFormat (stateOf (now (state .entry))) (now (buf .entry)) (ofZ w32 key) text len (now (part .entry)) ⌝ }
 {
-    let t = build::format_text(kept::state_of(state), buf, key, len, part);
-    kept::keep(state, t)
+    let t = build::format_text(c_state::state_of(state), buf, key, len, part);
+    c_state::keep(state, t)
 }
 
 // End: the record's length.
@@ -375,6 +375,6 @@ pub extern "C" fn sikalumdo_end(state: &mut [u32], buf: &mut [u8]) -> u64
     ensures kept { λ _. ⌜ now (state .exit) ≡ turnNumbers (now (state .entry)) (built (stateOf (now (state .entry))) (length (now (buf .entry)))) ⌝ }
     ensures written { λ _. ⌜ now (buf .exit) ≡ afterEnd (stateOf (now (state .entry))) (now (buf .entry)) ⌝ }
 {
-    let t = build::end(kept::state_of(state), buf);
-    kept::keep(state, t)
+    let t = build::end(c_state::state_of(state), buf);
+    c_state::keep(state, t)
 }

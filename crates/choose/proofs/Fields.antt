@@ -17,10 +17,10 @@ use Rattle.fetch.specs.Fields.{paired}
 use Rattle.fetch.specs.declared.Found.{Found}
 use Rattle.fetch.specs.declared.Found.the-variants.{Field, Refused}
 use Rattle.fetch.proofs.Inside.{paired-inside}
-use Rattle.fetched.proofs.Present.{paired-stop}
-use Rattle.people.specs.Choice.{ascending, chosenParts}
-use Rattle.people.specs.Sizes.{fieldSize, fieldsSize}
-use Rattle.people.proofs.Choice.{length-chosenParts}
+use Rattle.fetch_laws.proofs.Present.{paired-stop}
+use Rattle.choice.specs.Choice.{ascending, chosenParts}
+use Rattle.choice.specs.Sizes.{fieldSize, fieldsSize}
+use Rattle.choice.proofs.Choice.{length-chosenParts}
 use Rattle.choose.specs.Chosen.{chosenField, chosenFields}
 
 -- the next field, where some are left: its chosen bytes

@@ -11,8 +11,8 @@ use lib.Seq.{sets, drop-cons, drop-drop, length-take-le, getD-drop}
 use Rattle.words.proofs.Stores.{sets-append}
 use Rattle.stores.specs.Stores.{filled}
 use Rattle.stores.proofs.Room.{filled-room}
-use Rattle.people.specs.Choice.{ascendingFrom, ascending, chosenParts}
-use Rattle.people.proofs.Choice.{ascending-drop, ascending-below, neighbours}
+use Rattle.choice.specs.Choice.{ascendingFrom, ascending, chosenParts}
+use Rattle.choice.proofs.Choice.{ascending-drop, ascending-below, neighbours}
 
 -- the parts of k neighbours are one stretch of bytes, which lies among everybody's
 pub stretch-inside : (people size m : ℕ) (cs : List ℕ) (i k : ℕ) → ascending people cs ≡ true → people * size ≤ m → 0 < k → i + k ≤ length cs

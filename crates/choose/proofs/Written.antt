@@ -18,14 +18,14 @@ use Rattle.fixed.specs.Layout.{indivAt, peopleAt, idAt, membersOf}
 use Rattle.fixed.specs.declared.Site.{Site}
 use Rattle.fetch.specs.Fields.{paired}
 use Rattle.fetch.specs.declared.Found.the-variants.{Field}
-use Rattle.fetched.proofs.Present.{paired-stop}
+use Rattle.fetch_laws.proofs.Present.{paired-stop}
 use Rattle.stores.specs.Stores.{filled}
 use Rattle.stores.proofs.Inside.{sets-inside}
 use Rattle.stores.proofs.Room.{filled-room}
-use Rattle.people.specs.Choice.{ascending, chosenParts}
+use Rattle.choice.specs.Choice.{ascending, chosenParts}
 use Rattle.choose.specs.Chosen.{keptFormats, chosenFields, chosenBlock, chosenSite, chosenRecord}
-use Rattle.people.specs.Sizes.{fieldsSize, keptSize}
-use Rattle.people.proofs.Choice.{length-ascending, length-chosenParts}
+use Rattle.choice.specs.Sizes.{fieldsSize, keptSize}
+use Rattle.choice.proofs.Choice.{length-ascending, length-chosenParts}
 use Rattle.choose.proofs.Fields.{fields-turn, length-chosenFields}
 
 -- of nobody no field is kept, of somebody all are

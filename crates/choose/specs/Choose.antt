@@ -11,7 +11,7 @@ use Rattle.fixed.specs.declared.Facts.{Facts}
 use Rattle.record.specs.Reading.{reading}
 use Rattle.record.specs.declared.Reading.{Reading}
 use Rattle.record.specs.declared.Reading.the-variants.{Accepted, Refused as Unread}
-use Rattle.people.specs.Choice.{ascending}
+use Rattle.choice.specs.Choice.{ascending}
 use Rattle.choose.specs.Chosen.{chosenRecord}
 use Rattle.choose.specs.declared.Choosing.{Choosing}
 use Rattle.choose.specs.declared.Choosing.the-variants.{Chosen, Refused}

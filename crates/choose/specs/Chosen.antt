@@ -13,7 +13,7 @@ use Rattle.fixed.specs.declared.Site.{Site}
 use Rattle.fetch.specs.Fields.{paired}
 use Rattle.fetch.specs.declared.Found.{Found}
 use Rattle.fetch.specs.declared.Found.the-variants.{Field, Refused}
-use Rattle.people.specs.Choice.{chosenParts}
+use Rattle.choice.specs.Choice.{chosenParts}
 
 -- a FORMAT field before the rest of the block: its key and descriptor as they stand, then the chosen people's elements
 abbrev pub chosenField : List ℕ → ℕ → List ℕ → (ℕ → List ℕ → List ℕ) → Found → List ℕ

@@ -1,5 +1,5 @@
 // Choosing people: the record of some of the people, into a lent buffer.
-// Rests on record for reading, on fetch for the FORMAT fields, on people for the choice, and on stores for what is written.
+// Rests on record for reading, on fetch for the FORMAT fields, on choice for who is chosen, and on stores for what is written.
 ghost use mathlib.Core.Path.{_≡_};
 ghost use mathlib.Core.Bool.{true};
 ghost use mathlib.Core.List.{_++_};
@@ -7,8 +7,8 @@ ghost use Prim.Native.Nat.{_+_, _-_, _*_, _^_, _<_, _≤_};
 ghost use lib.ListN.{drop, getD, length, take};
 ghost use lib.Seq.{sets};
 ghost use Rattle.fixed.specs.Layout.{idAt};
-ghost use Rattle.people.specs.Choice.{ascending, chosenParts};
-ghost use Rattle.people.specs.Sizes.{fieldsSize};
+ghost use Rattle.choice.specs.Choice.{ascending, chosenParts};
+ghost use Rattle.choice.specs.Sizes.{fieldsSize};
 ghost use Rattle.choose.specs.Chosen.{chosenFields, keptFormats, chosenBlock, chosenRecord};
 ghost use Rattle.choose.specs.Choose.{choosing, afterChoosing, chosenInside};
 use fetch::Found;
@@ -123,7 +123,7 @@ fn put_fields(
         else {
             return;
         };
-        let size = people::part_size(code, len);
+        let size = choice::part_size(code, len);
         put_field(buf, o, block, at, place, size, choice, people);
         o += place - at + choice.len() * size;
         at = stop;
@@ -180,11 +180,11 @@ pub fn choose(s: &[u8], facts: Facts, choice: &[u32], buf: &mut [u8]) -> Choosin
         return Choosing::Refused(record::reading_refusal(r));
     };
     let people = site.people;
-    if people::is_ascending(choice, people) {
+    if choice::is_ascending(choice, people) {
         let border = site.border;
         let length = site.length;
         let count = kept_formats(choice, site.formats);
-        let size = people::kept_size(&s[..length], border, people, choice.len(), count);
+        let size = choice::kept_size(&s[..length], border, people, choice.len(), count);
         if buf.len() < border + size {
             return Choosing::Refused(Refusal {
                 number: 13,

@@ -1,4 +1,4 @@
--- A value of type 0 is a bare 00: no elements, and no byte but its descriptor. Rests on values' definitions and fetched's Present.
+-- A value of type 0 is a bare 00: no elements, and no byte but its descriptor. Rests on values' definitions and fetch_laws' Present.
 use mathlib.Core.Path.{_≡_, refl, sym, ap}
 use mathlib.Core.List.{List, [], _∷_}
 use mathlib.Core.Bool.{Bool, true, false}
@@ -17,7 +17,7 @@ use Rattle.values.specs.declared.Integer.the-variants.{One, Refused as NoIntege
 use Rattle.values.specs.declared.Descriptor.the-variants.{Typed}
 use Rattle.values.specs.declared.Value.the-variants.{Present}
 use Rattle.values.proofs.Stand.{mayStand-zero}
-use Rattle.fetched.proofs.Present.{present-typed}
+use Rattle.fetch_laws.proofs.Present.{present-typed}
 
 -- a type with a width is not type 0
 pub wide-type : (t : ℕ) → 0 < widthOf t → 0 < t

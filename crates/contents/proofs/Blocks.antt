@@ -23,7 +23,7 @@ use Rattle.fetch.specs.declared.Found.{Found}
 use Rattle.fetch.specs.declared.Found.the-variants.{Field as Is, Refused}
 use Rattle.fetch.proofs.Account.{thenFields, of-kind, toFirst-later}
 use Rattle.fetch.proofs.Inside.{stepLater, field-inside}
-use Rattle.fetched.proofs.Bytes.{part-of}
+use Rattle.fetch_laws.proofs.Bytes.{part-of}
 use Rattle.contents.specs.Contents.{elementsAt, shownOf}
 use Rattle.contents.proofs.Elements.{elementsOf-take}
 

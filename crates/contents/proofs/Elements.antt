@@ -1,5 +1,5 @@
 -- Elements are shown by their own bytes, whatever stands around them; one by one, as they are asked for, they are those that a record shows. Rests on
--- specs/Fetched, on elements and on fetched's Fronts.
+-- specs/Fetched, on elements and on fetch_laws' Fronts.
 use mathlib.Core.Path.{_≡_, refl, sym, _∙_, ap}
 use mathlib.Core.List.{List, [], _∷_}
 use Prim.Native.Nat.{ℕ, zero, suc, _+_, _*_, _/_, _≤_}
@@ -14,7 +14,7 @@ use Rattle.types.specs.Rows.{rowOf, widthOf}
 use Rattle.types.specs.Elements.{shown}
 use Rattle.vectors.specs.Vectors.{shownNumbers}
 use Rattle.record.specs.Shown.{elementsOf}
-use Rattle.fetched.proofs.Fronts.{numbers-take, shownNumbers-numbers}
+use Rattle.fetch_laws.proofs.Fronts.{numbers-take, shownNumbers-numbers}
 use Rattle.elements.specs.Elements.{elementAt}
 use Rattle.elements.specs.declared.Shown.the-variants.{Bits, Nothing}
 use Rattle.contents.specs.Fetched.{shownAt}

@@ -27,9 +27,9 @@ use Rattle.fetch.specs.declared.Kind.the-variants.{Id, Allele, Filter, Info, Fo
 use Rattle.fetch.specs.declared.Found.{Found}
 use Rattle.fetch.specs.declared.Found.the-variants.{Field as Is, Refused}
 use Rattle.fetch.proofs.Inside.{field-inside}
-use Rattle.fetched.proofs.Bytes.{fetches, isField, found-there}
-use Rattle.fetched.proofs.Present.{paired-keyed}
-use Rattle.fetched.proofs.There.{accepted-people, found-none}
+use Rattle.fetch_laws.proofs.Bytes.{fetches, isField, found-there}
+use Rattle.fetch_laws.proofs.Present.{paired-keyed}
+use Rattle.fetch_laws.proofs.There.{accepted-people, found-none}
 use Rattle.contents.specs.Contents.{elementsAt, pairShown, fieldShown, shownOf}
 use Rattle.contents.specs.Fetched.{Gives, GivesText, GivesFilter, GivesPair, GivesField, ShownFetched}
 use Rattle.contents.proofs.Counts.{present-count, present-id, present-allele, present-filter}

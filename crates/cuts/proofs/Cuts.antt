@@ -26,7 +26,7 @@ use Rattle.genotypes.specs.declared.Gt.{Gt}
 use Rattle.record.specs.Reading.{reading}
 use Rattle.record.specs.declared.Reading.{Reading}
 use Rattle.record.specs.declared.Reading.the-variants.{Accepted, Refused as Unread}
-use Rattle.people.specs.Choice.{ascending}
+use Rattle.choice.specs.Choice.{ascending}
 use Rattle.choose.specs.Chosen.{chosenRecord}
 use Rattle.choose.specs.Choose.{written, answerOf, choosing, stored, bufferOf, afterChoosing}
 use Rattle.choose.specs.declared.Choosing.the-variants.{Chosen, Refused}

@@ -7,10 +7,10 @@ use native.Mathlib.Omega.{arith}
 use lib.ListN.{length, take, drop, length-drop}
 use lib.Seq.{length-take-le}
 use Rattle.fixed.specs.declared.Site.{Site}
-use Rattle.people.specs.Choice.{ascending}
+use Rattle.choice.specs.Choice.{ascending}
 use Rattle.choose.specs.Chosen.{keptFormats, chosenRecord}
-use Rattle.people.proofs.Choice.{length-ascending}
-use Rattle.people.proofs.Sizes.{size-inside}
+use Rattle.choice.proofs.Choice.{length-ascending}
+use Rattle.choice.proofs.Sizes.{size-inside}
 use Rattle.choose.proofs.Written.{size-block, length-chosenRecord}
 
 pub chosen-shorter : (t : Site) (cs s : List ℕ) → t .border ≤ t .length → t .length ≤ length s → ascending (t .people) cs ≡ true

@@ -14,7 +14,7 @@ use Rattle.fixed.specs.declared.Facts.{Facts}
 use Rattle.record.specs.Reading.{reading}
 use Rattle.record.specs.declared.Reading.{Reading}
 use Rattle.record.specs.declared.Reading.the-variants.{Accepted, Refused}
-use Rattle.people.specs.Choice.{ascending}
+use Rattle.choice.specs.Choice.{ascending}
 use Rattle.choose.specs.Chosen.{chosenRecord}
 use Rattle.frames.specs.Text.{noLine, badLine}
 use Rattle.frames.specs.declared.Answer.{Answer}

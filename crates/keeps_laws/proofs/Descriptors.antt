@@ -1,5 +1,5 @@
 -- Keys, true lengths and descriptors that are there: they are written in no more bytes than they stand in, and a key is an offset. Rests on
--- proofs/Elements, on the table's rule, and on fetched's laws of what is there.
+-- proofs/Elements, on the table's rule, and on fetch_laws' laws of what is there.
 use mathlib.Core.Path.{_≡_, refl, _∙_, sym}
 use mathlib.Core.List.{List, [], _∷_}
 use mathlib.Core.Bool.{Bool, true, false}
@@ -23,10 +23,10 @@ use Rattle.values.specs.declared.Descriptor.the-variants.{Typed}
 use Rattle.values.proofs.Stand.{mayStand-zero}
 use Rattle.encode.specs.Encode.{integerBytes, descriptorBytes}
 use Rattle.encode.proofs.Lengths.{length-integerBytes, length-descriptorBytes}
-use Rattle.rules.specs.Rules.{keyNumber}
+use Rattle.build_rules.specs.Rules.{keyNumber}
 use Rattle.fetch.proofs.Inside.{integer-inside}
-use Rattle.fetched.proofs.FormatFields.{keyed-integer}
-use Rattle.built.proofs.Widths.{narrowest-types}
+use Rattle.fetch_laws.proofs.FormatFields.{keyed-integer}
+use Rattle.build_laws.proofs.Widths.{narrowest-types}
 use Rattle.keeps_laws.proofs.Elements.{Code, bare, wide, free, code, narrowest-shown, width-under}
 use Rattle.keeps_laws.proofs.Vectors.{number-bound}
 

@@ -1,5 +1,5 @@
 -- What the number of an element is once it is shown: of the same kind, below the most of its use, of 32 bits or a byte, and it takes no wider type
--- than it had. Rests on types' marks, on vectors' codes and on built's laws of widths.
+-- than it had. Rests on types' marks, on vectors' codes and on build_laws' laws of widths.
 use mathlib.Core.Path.{_≡_, refl, _∙_, sym, ap}
 use mathlib.Core.Logic.{_≢_}
 use mathlib.Core.List.{List, [], _∷_}
@@ -21,11 +21,11 @@ use Rattle.vectors.specs.Sound.{highest, codeMost, mostOf}
 use Rattle.vectors.proofs.Codes.{code-sound, sound-code}
 use Rattle.encode.specs.Encode.{typeFor, widest}
 use Rattle.record.specs.Shown.{kindOf}
-use Rattle.rules.specs.Values.{givenAs}
-use Rattle.built.specs.Records.{All, mostElement}
-use Rattle.built.specs.Widths.{between}
-use Rattle.built.proofs.Values.{by-type}
-use Rattle.built.proofs.Widths.{Narrow, positive, negative, missed, ended, narrowest-one, narrowest-two, narrowest-types, marked-narrow, most-under, typeFor-types, typeFor-narrowest}
+use Rattle.build_rules.specs.Values.{givenAs}
+use Rattle.build_laws.specs.Records.{All, mostElement}
+use Rattle.build_laws.specs.Widths.{between}
+use Rattle.build_laws.proofs.Values.{by-type}
+use Rattle.build_laws.proofs.Widths.{Narrow, positive, negative, missed, ended, narrowest-one, narrowest-two, narrowest-types, marked-narrow, most-under, typeFor-types, typeFor-narrowest}
 
 -- the codes: type 0, those with a width, and those that are not used
 unused-rows : (rs : List Row) (k : ℕ) → All (λ r. r ≡ unused) rs → getD rs k unused ≡ unused

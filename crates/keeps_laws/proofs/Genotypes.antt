@@ -1,5 +1,5 @@
 -- The FORMAT fields of a genotype block that is sound, as they are shown: each keeps the builder's rules, and together they are written in no more
--- bytes than they stand in. Rests on proofs/Values, on fetched's law of the first field of a block and on contents' fields as they are shown.
+-- bytes than they stand in. Rests on proofs/Values, on fetch_laws' law of the first field of a block and on contents' fields as they are shown.
 use mathlib.Core.Path.{_≡_, refl, _∙_, sym, ap}
 use mathlib.Core.List.{List, [], _∷_, _++_, map}
 use mathlib.Core.Bool.{true}
@@ -16,15 +16,15 @@ use Rattle.genotypes.specs.declared.Gt.{Gt}
 use Rattle.genotypes.specs.declared.Genotypes.the-variants.{Sound}
 use Rattle.encode.specs.Encode.{integerBytes}
 use Rattle.record.specs.Shown.{Field, kindOf}
-use Rattle.append.specs.Values.{givenBytes, pairBytes}
+use Rattle.build_append.specs.Values.{givenBytes, pairBytes}
 use Rattle.build.specs.Turns.{isIntegers}
 use Rattle.fetch.specs.declared.Kind.the-variants.{Format}
 use Rattle.fetch.proofs.Inside.{drop-past}
-use Rattle.fetched.proofs.Agree.{sound-there, sound-judged}
-use Rattle.fetched.proofs.FormatFields.{JudgedField, formats-field}
+use Rattle.fetch_laws.proofs.Agree.{sound-there, sound-judged}
+use Rattle.fetch_laws.proofs.FormatFields.{JudgedField, formats-field}
 use Rattle.contents.proofs.Blocks.{formatOf, itemsOf}
-use Rattle.built.specs.Records.{joined, fieldBytes, KeepsField, KeepsFields}
-use Rattle.chosen.proofs.Stored.{Bytes-drop}
+use Rattle.build_laws.specs.Records.{joined, fieldBytes, KeepsField, KeepsFields}
+use Rattle.choose_laws.proofs.Stored.{Bytes-drop}
 use Rattle.keeps_laws.proofs.Descriptors.{key-keeps}
 use Rattle.keeps_laws.proofs.Values.{shownAt, value-keeps, gt-types}
 

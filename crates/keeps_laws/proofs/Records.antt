@@ -1,6 +1,6 @@
 -- What an accepted record shows keeps the rules of a record, and is written in no more bytes than the record has; so it builds again, to a tight
 -- record that is accepted, shows the same and is no longer. Rests on proofs/Steps and Genotypes, on what an accepted record's reading went through, on
--- contents' Blocks and on built's laws.
+-- contents' Blocks and on build_laws' laws.
 use mathlib.Core.Path.{_≡_, refl, _∙_, sym, ap}
 use mathlib.Core.List.{List, [], _++_, append-nil, flatten}
 use Prim.Native.Nat.{ℕ, zero, suc, _+_, _-_, _<_, _≤_}
@@ -14,7 +14,7 @@ use Rattle.fixed.specs.Layout.{chromAt, posAt, rlenAt, qualAt, countsAt, people
 use Rattle.fixed.specs.declared.Facts.{Facts}
 use Rattle.fixed.specs.declared.Site.{Site}
 use Rattle.fixed.proofs.Fits.{Fits, people-given}
-use Rattle.front.specs.Front.{fieldsNumber}
+use Rattle.build_front.specs.Front.{fieldsNumber}
 use Rattle.site.specs.Site.{site}
 use Rattle.site.specs.declared.Step.the-variants.{At}
 use Rattle.genotypes.specs.Formats.{noGt}
@@ -23,21 +23,21 @@ use Rattle.record.specs.Reading.{reading, siteOf, genotypesOf}
 use Rattle.record.specs.Shown.{integers, text, Pair}
 use Rattle.record.specs.declared.Reading.the-variants.{Accepted}
 use Rattle.record.proofs.Accepted.{accepted, accepted-fits}
-use Rattle.given.specs.Given.{filtersNumber}
-use Rattle.append.specs.Values.{givenBytes}
-use Rattle.rules.specs.Values.{any, givenNumber}
+use Rattle.build_given.specs.Given.{filtersNumber}
+use Rattle.build_append.specs.Values.{givenBytes}
+use Rattle.build_rules.specs.Values.{any, givenNumber}
 use Rattle.fetch.specs.Fields.{alone}
 use Rattle.fetch.proofs.Inside.{drop-past}
-use Rattle.fetched.proofs.There.{site-walk}
+use Rattle.fetch_laws.proofs.There.{site-walk}
 use Rattle.contents.specs.Contents.{shownOf}
 use Rattle.contents.proofs.Blocks.{itemsOf, eachIn, blocksShown, shown-blocks}
-use Rattle.built.specs.Records.{joined, textBytes, infoBytes, siteBytes, genotypeBytes, recordBytes, All, Fit, KeepsAllele, KeepsInfo, Keeps}
-use Rattle.built.specs.Runs.{shownAs}
-use Rattle.built.specs.Builds.{Tight, Builds}
-use Rattle.built.proofs.Front.{length-recordBytes}
-use Rattle.built.proofs.ReadBack.{reads}
-use Rattle.built.proofs.Builds.{keeps-builds, keeps-tight, tight-reads, tight-record}
-use Rattle.chosen.proofs.Stored.{Bytes-drop, Bytes-take, field-bound}
+use Rattle.build_laws.specs.Records.{joined, textBytes, infoBytes, siteBytes, genotypeBytes, recordBytes, All, Fit, KeepsAllele, KeepsInfo, Keeps}
+use Rattle.build_laws.specs.Runs.{shownAs}
+use Rattle.build_laws.specs.Builds.{Tight, Builds}
+use Rattle.build_laws.proofs.Front.{length-recordBytes}
+use Rattle.build_laws.proofs.ReadBack.{reads}
+use Rattle.build_laws.proofs.Builds.{keeps-builds, keeps-tight, tight-reads, tight-record}
+use Rattle.choose_laws.proofs.Stored.{Bytes-drop, Bytes-take, field-bound}
 use Rattle.keeps_laws.specs.Tightened.{Tightened}
 use Rattle.keeps_laws.proofs.Values.{shownAt}
 use Rattle.keeps_laws.proofs.Steps.{id-keeps, allelesAt, alleles-keep, filter-keeps, pairsAt, pairs-keep}

@@ -30,19 +30,19 @@ use Rattle.site.specs.Site.{info, infoValue}
 use Rattle.site.specs.declared.Step.the-variants.{At}
 use Rattle.encode.specs.Encode.{integerBytes}
 use Rattle.record.specs.Shown.{integers, text, Pair, kindOf, elementsOf}
-use Rattle.given.specs.Given.{numberOf, filtersNumber, alleleNumber}
-use Rattle.append.specs.Values.{givenBytes, pairBytes}
-use Rattle.rules.specs.Values.{any, givenAs, givenNumber}
+use Rattle.build_given.specs.Given.{numberOf, filtersNumber, alleleNumber}
+use Rattle.build_append.specs.Values.{givenBytes, pairBytes}
+use Rattle.build_rules.specs.Values.{any, givenAs, givenNumber}
 use Rattle.fetch.specs.Fields.{alone, paired}
 use Rattle.fetch.specs.declared.Kind.the-variants.{Allele as AlleleKind, Info as InfoKind}
 use Rattle.fetch.proofs.Inside.{present-inside, drop-past, integer-inside}
-use Rattle.fetched.proofs.Agree.{sound-there, sound-judged, went}
-use Rattle.fetched.proofs.FormatFields.{keyed-integer}
+use Rattle.fetch_laws.proofs.Agree.{sound-there, sound-judged, went}
+use Rattle.fetch_laws.proofs.FormatFields.{keyed-integer}
 use Rattle.contents.proofs.Elements.{elementsOf-take}
 use Rattle.contents.proofs.Blocks.{bytesOf, pairOf, itemsOf}
-use Rattle.built.specs.Records.{joined, textBytes, infoBytes, All, Fit, KeepsAllele, KeepsInfo}
-use Rattle.built.proofs.Values.{number-filters}
-use Rattle.chosen.proofs.Stored.{Bytes-drop}
+use Rattle.build_laws.specs.Records.{joined, textBytes, infoBytes, All, Fit, KeepsAllele, KeepsInfo}
+use Rattle.build_laws.proofs.Values.{number-filters}
+use Rattle.choose_laws.proofs.Stored.{Bytes-drop}
 use Rattle.keeps_laws.proofs.Descriptors.{key-keeps, not-outside}
 use Rattle.keeps_laws.proofs.Values.{shownAt, value-there, value-keeps, id-text, allele-text, filter-types, text-part, there-takes}
 

@@ -1,5 +1,5 @@
 -- Values that are there, as they are shown: they are written in no more bytes than they stand in, and where they were sound no builder's rule is
--- against them. Rests on proofs/Descriptors and Vectors, and on fetched's and contents' laws of what is there.
+-- against them. Rests on proofs/Descriptors and Vectors, and on fetch_laws' and contents' laws of what is there.
 use mathlib.Core.Path.{_≡_, refl, _∙_, sym, ap}
 use mathlib.Core.List.{List, [], _∷_, map}
 use mathlib.Core.Bool.{Bool, true, false}
@@ -25,16 +25,16 @@ use Rattle.vectors.specs.declared.Judged.the-variants.{Sound}
 use Rattle.encode.specs.Encode.{typeFor, widest}
 use Rattle.encode.proofs.Lengths.{length-valueBytes}
 use Rattle.record.specs.Shown.{integers, kindOf, elementsOf}
-use Rattle.given.specs.Given.{vectorsGiven, elementsNumber}
-use Rattle.append.specs.Values.{writtenAs, givenBytes}
-use Rattle.rules.specs.Values.{givenAs, givenNumber}
-use Rattle.fetched.proofs.Fronts.{numbers-take, shownNumbers-numbers}
-use Rattle.fetched.proofs.Present.{There as Found, present-typed}
+use Rattle.build_given.specs.Given.{vectorsGiven, elementsNumber}
+use Rattle.build_append.specs.Values.{writtenAs, givenBytes}
+use Rattle.build_rules.specs.Values.{givenAs, givenNumber}
+use Rattle.fetch_laws.proofs.Fronts.{numbers-take, shownNumbers-numbers}
+use Rattle.fetch_laws.proofs.Present.{There as Found, present-typed}
 use Rattle.contents.proofs.Bare.{wide-type, present-zero}
 use Rattle.contents.proofs.Elements.{elementsOf-none}
-use Rattle.built.specs.Records.{All, Fit}
-use Rattle.built.proofs.Widths.{widest-types, typeFor-narrowest}
-use Rattle.chosen.proofs.Stored.{Bytes-drop, Bytes-take}
+use Rattle.build_laws.specs.Records.{All, Fit}
+use Rattle.build_laws.proofs.Widths.{widest-types, typeFor-narrowest}
+use Rattle.choose_laws.proofs.Stored.{Bytes-drop, Bytes-take}
 use Rattle.keeps_laws.proofs.Elements.{by-wide, narrowest-shown, width-under, widest-under}
 use Rattle.keeps_laws.proofs.Vectors.{numbers-bound, length-numbers, judged-given, numbers-fit}
 use Rattle.keeps_laws.proofs.Descriptors.{whole-types, Stands, empty, filled, Described, described-long}

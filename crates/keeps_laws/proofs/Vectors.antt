@@ -24,11 +24,11 @@ use Rattle.vectors.specs.declared.Judged.{Judged}
 use Rattle.vectors.specs.declared.Judged.the-variants.{Sound}
 use Rattle.encode.specs.Encode.{typeFor}
 use Rattle.record.specs.Shown.{kindOf}
-use Rattle.given.specs.Given.{vectorsGiven, elementsNumber}
-use Rattle.rules.specs.Values.{givenAs}
-use Rattle.built.specs.Records.{All, Fit}
-use Rattle.chosen.proofs.Judging.{both-sound}
-use Rattle.chosen.proofs.Stored.{Bytes-drop, Bytes-take}
+use Rattle.build_given.specs.Given.{vectorsGiven, elementsNumber}
+use Rattle.build_rules.specs.Values.{givenAs}
+use Rattle.build_laws.specs.Records.{All, Fit}
+use Rattle.choose_laws.proofs.Judging.{both-sound}
+use Rattle.choose_laws.proofs.Stored.{Bytes-drop, Bytes-take}
 use Rattle.keeps_laws.proofs.Elements.{Shows, shows, shown-fits}
 
 -- numbers of bytes are of their width

@@ -1,4 +1,4 @@
--- What a record shows, written as narrowly as it can be, and read again. Rests on built's bytes of a record, on reading and on what a
+-- What a record shows, written as narrowly as it can be, and read again. Rests on build_laws' bytes of a record, on reading and on what a
 -- record shows.
 use mathlib.Core.Path.{_≡_}
 use lib.ListN.{length}
@@ -9,7 +9,7 @@ use Rattle.record.specs.Reading.{reading}
 use Rattle.record.specs.Shown.{Shown}
 use Rattle.record.specs.declared.Reading.the-variants.{Accepted}
 use Rattle.contents.specs.Contents.{shownOf}
-use Rattle.built.specs.Records.{recordBytes}
+use Rattle.build_laws.specs.Records.{recordBytes}
 
 -- the record of what is shown is accepted to its last byte, is of as many people as are given, and shows the same
 pub record Tightened (f : Facts) (r : Shown) : Type 0 where

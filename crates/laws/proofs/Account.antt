@@ -10,9 +10,9 @@ use Rattle.record.specs.declared.Reading.the-variants.{Accepted}
 use Rattle.fetch.specs.Account.{account, ofKind, numbered}
 use Rattle.fetch.specs.Fetch.{fieldOf, found}
 use Rattle.fetch.specs.declared.Kind.{Kind}
-use Rattle.fetched.proofs.InTurn.{kinds-there, accepted-in-turn, in-turn-accepted, accepted-gt, gt-fetched, gt-none}
-use Rattle.fetched.proofs.FormatsInTurn.{format-in-turn}
-use Rattle.fetched.proofs.Turns.{site-in-turn}
+use Rattle.fetch_laws.proofs.InTurn.{kinds-there, accepted-in-turn, in-turn-accepted, accepted-gt, gt-fetched, gt-none}
+use Rattle.fetch_laws.proofs.FormatsInTurn.{format-in-turn}
+use Rattle.fetch_laws.proofs.Turns.{site-in-turn}
 use Rattle.walker.proofs.Walks.{walk-account}
 use Rattle.contents.proofs.Elements.{shownAt-same}
 use Rattle.contents.proofs.Fetched.{shown-fetched}

@@ -22,14 +22,14 @@ use Rattle.fetch.specs.Account.{fieldsOf, siteKinds, siteFields, genotypeFields
 use Rattle.fetch.specs.Fetch.{fieldOf, found}
 use Rattle.fetch.specs.declared.Kind.{Kind}
 use Rattle.fetch.specs.declared.Found.the-variants.{Refused as NoField}
-use Rattle.chosen.proofs.Stored.{field-bound}
+use Rattle.choose_laws.proofs.Stored.{field-bound}
 use Rattle.build.specs.Order.{rank}
 use Rattle.build.specs.Turns.{freshState}
 use Rattle.build.specs.declared.Stage.{Stage}
 use Rattle.build.specs.declared.Stage.the-variants.{Fresh, Begun, Named, Alleles, Filtered, Infos, Formats, Ended}
 use Rattle.build.specs.declared.Builder.{Builder}
-use Rattle.told.specs.Told.{answer, siteNumbers, siteTold, emptySite}
-use Rattle.kept.specs.Kept.{stageOf, stateNumbers, stateOf}
+use Rattle.c_answers.specs.Told.{answer, siteNumbers, siteTold, emptySite}
+use Rattle.c_state.specs.Kept.{stageOf, stateNumbers, stateOf}
 use Rattle.laws.specs.Answers.{Ranges, SiteRanges, Answers}
 
 number-told : (n low : ℕ) → answer n low / 4294967296 ≡ n

@@ -22,16 +22,16 @@ use Rattle.fetch.specs.declared.Found.the-variants.{Field, Refused}
 use Rattle.contents.specs.Contents.{shownOf}
 use Rattle.tally.specs.Tally.{nobody, callsOf, tallied}
 use Rattle.tally.specs.declared.Counting.the-variants.{Counted}
-use Rattle.built.specs.Builds.{Tight, Builds}
-use Rattle.built.proofs.Builds.{tight-reads, tight-again}
-use Rattle.bare.specs.Ones.{withOnes}
-use Rattle.bare.proofs.Stand.{described-bare, refused-bare, refused-length, refused-integer}
-use Rattle.bare.proofs.Found.{found-empty, pair-empty, gt-empty}
-use Rattle.bare.proofs.Kept.{withOnes-kept}
-use Rattle.bare.proofs.Account.{typeOther, found-left}
-use Rattle.bare.proofs.Account.{shownOf-ones}
-use Rattle.bare.proofs.Records.{lies, reads-ones}
-use Rattle.bare.proofs.Tight.{tight-ones}
+use Rattle.build_laws.specs.Builds.{Tight, Builds}
+use Rattle.build_laws.proofs.Builds.{tight-reads, tight-again}
+use Rattle.bare_laws.specs.Ones.{withOnes}
+use Rattle.bare_laws.proofs.Stand.{described-bare, refused-bare, refused-length, refused-integer}
+use Rattle.bare_laws.proofs.Found.{found-empty, pair-empty, gt-empty}
+use Rattle.bare_laws.proofs.Kept.{withOnes-kept}
+use Rattle.bare_laws.proofs.Account.{typeOther, found-left}
+use Rattle.bare_laws.proofs.Account.{shownOf-ones}
+use Rattle.bare_laws.proofs.Records.{lies, reads-ones}
+use Rattle.bare_laws.proofs.Tight.{tight-ones}
 use Rattle.laws.specs.Bare.{Bare}
 
 nobody-called : (f : Facts) (s : List ℕ) (t : Site) (g : Gt) → reading f s ≡ Accepted t g → g .code ≡ 0 → t .alleles ≤ 64

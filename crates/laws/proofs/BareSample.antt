@@ -26,18 +26,18 @@ use Rattle.fetch.specs.Fetch.{fieldOf, found, fetched}
 use Rattle.contents.specs.Contents.{elementsAt, shownOf}
 use Rattle.walker.specs.Walk.{pairIn, pairAt, opened}
 use Rattle.tally.specs.Tally.{callsOf, tallied}
-use Rattle.people.specs.Choice.{chosenParts}
+use Rattle.choice.specs.Choice.{chosenParts}
 use Rattle.choose.specs.Chosen.{chosenFields, chosenBlock, chosenSite, chosenRecord}
 use Rattle.encode.specs.Encode.{integerBytes, descriptorBytes, widest, markedAs, narrowed, elementsBytes, valueBytes}
-use Rattle.given.specs.Given.{vectorsGiven, elementsNumber, filtersNumber}
-use Rattle.append.specs.Values.{givenBytes, pairBytes}
-use Rattle.front.specs.Front.{frontBytes, fieldsFilled}
-use Rattle.rules.specs.Rules.{keyNumber}
-use Rattle.rules.specs.Values.{givenNumber}
-use Rattle.built.specs.Records.{joined, siteBytes, genotypeBytes, filledFront, recordBytes, Keeps}
-use Rattle.built.specs.Builds.{Tight}
-use Rattle.built.proofs.Builds.{keeps-tight}
-use Rattle.bare.specs.Ones.{valueOne, pairOne, onesOf, withOnes}
+use Rattle.build_given.specs.Given.{vectorsGiven, elementsNumber, filtersNumber}
+use Rattle.build_append.specs.Values.{givenBytes, pairBytes}
+use Rattle.build_front.specs.Front.{frontBytes, fieldsFilled}
+use Rattle.build_rules.specs.Rules.{keyNumber}
+use Rattle.build_rules.specs.Values.{givenNumber}
+use Rattle.build_laws.specs.Records.{joined, siteBytes, genotypeBytes, filledFront, recordBytes, Keeps}
+use Rattle.build_laws.specs.Builds.{Tight}
+use Rattle.build_laws.proofs.Builds.{keeps-tight}
+use Rattle.bare_laws.specs.Ones.{valueOne, pairOne, onesOf, withOnes}
 use Rattle.laws.specs.BareSample.{BareSample, bareSample, oneSample, bareSite, emptyShown}
 use Rattle.laws.specs.Sample.{facts}
 use Rattle.laws.proofs.Bare.{bare}

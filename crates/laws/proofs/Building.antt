@@ -2,14 +2,14 @@
 use mathlib.Core.Path.{_≡_}
 use mathlib.Core.List.{List, [], _∷_}
 use Prim.Native.Nat.{ℕ}
-use Rattle.append.specs.Values.{writtenAs}
-use Rattle.rules.specs.Values.{givenAs}
-use Rattle.built.specs.Records.{All}
-use Rattle.built.specs.Widths.{shownAgain}
-use Rattle.built.proofs.Builds.{wrote-record, drop-wrote, finished-reads, keeps-builds, keeps-tight, tight-reads, tight-again, wrote-tight}
-use Rattle.built.proofs.Kept.{turns-keep, turns-room}
-use Rattle.built.proofs.Ordered.{turns-ordered}
-use Rattle.built.proofs.Widths.{Held, narrowest-one, narrowest-two, narrowest-types, held-integer, held-written, shown-held}
+use Rattle.build_append.specs.Values.{writtenAs}
+use Rattle.build_rules.specs.Values.{givenAs}
+use Rattle.build_laws.specs.Records.{All}
+use Rattle.build_laws.specs.Widths.{shownAgain}
+use Rattle.build_laws.proofs.Builds.{wrote-record, drop-wrote, finished-reads, keeps-builds, keeps-tight, tight-reads, tight-again, wrote-tight}
+use Rattle.build_laws.proofs.Kept.{turns-keep, turns-room}
+use Rattle.build_laws.proofs.Ordered.{turns-ordered}
+use Rattle.build_laws.proofs.Widths.{Held, narrowest-one, narrowest-two, narrowest-types, held-integer, held-written, shown-held}
 use Rattle.laws.specs.Building.{Building}
 
 -- each element of a value

@@ -14,15 +14,15 @@ use Rattle.record.specs.Reading.{reading}
 use Rattle.record.specs.declared.Reading.the-variants.{Accepted}
 use Rattle.choose.specs.Chosen.{chosenRecord}
 use Rattle.choose.specs.Choose.{afterChoosing}
-use Rattle.chosen.specs.Releases.{forPeople, releasedSite}
-use Rattle.chosen.specs.Divisions.{Division}
-use Rattle.chosen.proofs.Accepted.{release}
-use Rattle.chosen.proofs.Again.{chosenRecord-composed, choosing-composed}
-use Rattle.chosen.proofs.Choices.{ascending-composed}
-use Rattle.chosen.proofs.Divided.{tallied-accepted}
-use Rattle.chosen.proofs.Everybody.{chosenRecord-everybody}
-use Rattle.chosen.proofs.Shows.{shownOf-chosenRecord}
-use Rattle.chosen.proofs.Tallies.{tallied-sum}
+use Rattle.choose_laws.specs.Releases.{forPeople, releasedSite}
+use Rattle.choose_laws.specs.Divisions.{Division}
+use Rattle.choose_laws.proofs.Accepted.{release}
+use Rattle.choose_laws.proofs.Again.{chosenRecord-composed, choosing-composed}
+use Rattle.choose_laws.proofs.Choices.{ascending-composed}
+use Rattle.choose_laws.proofs.Divided.{tallied-accepted}
+use Rattle.choose_laws.proofs.Everybody.{chosenRecord-everybody}
+use Rattle.choose_laws.proofs.Shows.{shownOf-chosenRecord}
+use Rattle.choose_laws.proofs.Tallies.{tallied-sum}
 use Rattle.laws.specs.Choosing.{Choice, AddUp, Choosing}
 
 -- the tallies of the whole record and of its two parts are counted, and the parts' add up

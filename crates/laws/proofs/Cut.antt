@@ -3,7 +3,7 @@ use mathlib.Core.Path.{_≡_, refl}
 use mathlib.Core.List.{[], _∷_}
 use Prim.Native.Nat.{ℕ, zero, suc, _<_}
 use native.Mathlib.Omega.{arith}
-use Rattle.chosen.specs.Divisions.{Division, other}
+use Rattle.choose_laws.specs.Divisions.{Division, other}
 use Rattle.words.specs.Lists.{among}
 use Rattle.words.specs.Words.{le, number, bytes, outside}
 use Rattle.types.specs.Rows.{rowOf, widthOf}
@@ -24,7 +24,7 @@ use Rattle.fetch.specs.Account.{fieldsOf, siteKinds, siteFields, genotypeFields
 use Rattle.fetch.specs.Fetch.{fieldOf, found, fetched}
 use Rattle.calls.specs.Calls.{slots, alleleOf, alleles, people, called, without, howMany, counters, tally, peopleOf, counted}
 use Rattle.tally.specs.Tally.{callsOf, tallied}
-use Rattle.people.specs.Choice.{ascendingFrom, chosenParts}
+use Rattle.choice.specs.Choice.{ascendingFrom, chosenParts}
 use Rattle.choose.specs.Chosen.{chosenFields, chosenBlock, chosenSite, chosenRecord}
 use Rattle.choose.specs.Choose.{choosing}
 use Rattle.laws.specs.Sample.{sample}

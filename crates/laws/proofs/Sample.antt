@@ -29,13 +29,13 @@ use Rattle.decimal.specs.Decimal.{written, decimal}
 use Rattle.frames.specs.Text.{spaced}
 use Rattle.frames.specs.Frames.{callNumbers, acceptedLine, recordLine}
 use Rattle.encode.specs.Encode.{integerBytes, descriptorBytes, widest, markedAs, narrowed, elementsBytes, valueBytes}
-use Rattle.given.specs.Given.{vectorsGiven, elementsNumber, filtersNumber, alleleNumber}
-use Rattle.append.specs.Values.{givenBytes, pairBytes}
-use Rattle.front.specs.Front.{fieldsNumber, frontBytes, fieldsFilled}
-use Rattle.rules.specs.Rules.{keyNumber}
-use Rattle.rules.specs.Values.{givenNumber}
-use Rattle.built.specs.Records.{joined, siteBytes, genotypeBytes, filledFront, recordBytes, All, Fit, KeepsInfo, KeepsFields, Keeps}
-use Rattle.built.proofs.Builds.{keeps-tight}
+use Rattle.build_given.specs.Given.{vectorsGiven, elementsNumber, filtersNumber, alleleNumber}
+use Rattle.build_append.specs.Values.{givenBytes, pairBytes}
+use Rattle.build_front.specs.Front.{fieldsNumber, frontBytes, fieldsFilled}
+use Rattle.build_rules.specs.Rules.{keyNumber}
+use Rattle.build_rules.specs.Values.{givenNumber}
+use Rattle.build_laws.specs.Records.{joined, siteBytes, genotypeBytes, filledFront, recordBytes, All, Fit, KeepsInfo, KeepsFields, Keeps}
+use Rattle.build_laws.proofs.Builds.{keeps-tight}
 use Rattle.laws.specs.Sample.{Sample, facts, sample, showing, sampleShown}
 
 -- what it shows keeps the rules, and is written as its bytes

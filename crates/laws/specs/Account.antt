@@ -1,6 +1,6 @@
 -- One account of what a record holds: `account t s`, the list of its fields. Reading judges them in turn, fetching takes one by its number, the walker the
 -- next, GT is the one with GT's key, and what a record shows is a map over it; so whoever reads "shown" on the pages of demands 2 and 3 may read
--- "fetched". Rests on fetch, the walker, contents and fetched.
+-- "fetched". Rests on fetch, the walker, contents and fetch_laws.
 use Prim.Native.Nat.{ℕ}
 use mathlib.Core.Path.{_≡_}
 use mathlib.Core.Logic.{_≢_}
@@ -21,7 +21,7 @@ use Rattle.fetch.specs.Fetch.{fieldOf, found}
 use Rattle.fetch.specs.declared.Kind.{Kind}
 use Rattle.fetch.specs.declared.Kind.the-variants.{Info, Format}
 use Rattle.fetch.specs.declared.Found.the-variants.{Field}
-use Rattle.fetched.specs.InTurn.{judging, inTurn, InTurn, Accepts, gtIn, formatsInTurn, withGt}
+use Rattle.fetch_laws.specs.InTurn.{judging, inTurn, InTurn, Accepts, gtIn, formatsInTurn, withGt}
 use Rattle.walker.specs.Walk.{asPair, pairAt, opened, walkedTo}
 use Rattle.walker.specs.declared.Opening.the-variants.{First}
 use Rattle.contents.specs.Fetched.{shownAt, ShownFetched}

@@ -1,6 +1,6 @@
 -- Promises fix answers. The promise of every public function is an equation, between what it answers, or what a lent buffer holds
 -- afterwards, and a definition of what it was given; so two answers that meet it are equal. And what is told to other languages in numbers
--- can be read from them, so that a record that was read once is fetched from without reading it again. Rests on told and kept for what is told.
+-- can be read from them, so that a record that was read once is fetched from without reading it again. Rests on c_answers and c_state for what is told.
 use Prim.Native.Nat.{ℕ, _/_, _%_, _<_}
 use mathlib.Core.Path.{_≡_}
 use mathlib.Core.List.{List, _++_}
@@ -17,8 +17,8 @@ use Rattle.fetch.specs.declared.Kind.{Kind}
 use Rattle.fetch.specs.declared.Found.the-variants.{Refused as NoField}
 use Rattle.build.specs.Turns.{freshState}
 use Rattle.build.specs.declared.Builder.{Builder}
-use Rattle.told.specs.Told.{answer, siteNumbers, siteTold}
-use Rattle.kept.specs.Kept.{stateNumbers, stateOf}
+use Rattle.c_answers.specs.Told.{answer, siteNumbers, siteTold}
+use Rattle.c_state.specs.Kept.{stateNumbers, stateOf}
 
 -- the fields of a builder are in their ranges, as they are in every state that code holds
 pub record Ranges (st : Builder) : Type 0 where

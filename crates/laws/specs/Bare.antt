@@ -1,6 +1,6 @@
 -- A bare 00: where it stands and where it is refused, what is told of it, and what building again makes of it. `withOnes t s` is the record s
 -- with 01 in place of each bare 00, every other byte as it is. The laws of choosing and of building, on their own pages, are of every
--- accepted record, so of those with a bare 00 too. Rests on values, fetching, the walker, the tally, built and bare.
+-- accepted record, so of those with a bare 00 too. Rests on values, fetching, the walker, the tally, build_laws and bare_laws.
 use Prim.Native.Nat.{ℕ, _+_, _*_, _<_, _≤_}
 use mathlib.Core.Path.{_≡_}
 use mathlib.Core.List.{List, [], _∷_}
@@ -23,10 +23,10 @@ use Rattle.walker.specs.Walk.{pairAt}
 use Rattle.walker.specs.declared.Pair.the-variants.{Found}
 use Rattle.tally.specs.Tally.{nobody, tallied}
 use Rattle.tally.specs.declared.Counting.the-variants.{Counted}
-use Rattle.built.specs.Builds.{Tight, Builds}
-use Rattle.bare.specs.Empty.{Empty}
-use Rattle.bare.specs.Ones.{sameOrOne, withOnes}
-use Rattle.fetched.specs.InTurn.{Accepts}
+use Rattle.build_laws.specs.Builds.{Tight, Builds}
+use Rattle.bare_laws.specs.Empty.{Empty}
+use Rattle.bare_laws.specs.Ones.{sameOrOne, withOnes}
+use Rattle.fetch_laws.specs.InTurn.{Accepts}
 
 pub record Bare : Type 0 where
   -- 00 where a FILTER, INFO or FORMAT value stands, GT included: type 0, length 0, and the place just after it

@@ -19,8 +19,8 @@ use Rattle.walker.specs.declared.Pair.the-variants.{Found, End}
 use Rattle.tally.specs.Tally.{nobody, tallied}
 use Rattle.tally.specs.declared.Counting.the-variants.{Counted}
 use Rattle.choose.specs.Chosen.{chosenRecord}
-use Rattle.built.specs.Builds.{Tight, Builds}
-use Rattle.bare.specs.Ones.{withOnes}
+use Rattle.build_laws.specs.Builds.{Tight, Builds}
+use Rattle.bare_laws.specs.Ones.{withOnes}
 use Rattle.laws.specs.Sample.{facts, sampleFront, siteTo, showing}
 
 -- after the front: no ID, alleles G and A, then a value of no elements, by its descriptor, for FILTER, for INFO 2 and for GT

@@ -1,6 +1,6 @@
 -- Demand 2, building: turns from a fresh state, one after the other, over a buffer that nobody touches between them. `Finished` are turns that
 -- are all taken, up to the end; `FitTurn` is what the types of the parameters say; `gives` is what turns give together, as a record shows it;
--- `Keeps` are the rules of a record, and `recordBytes` its bytes. Rests on build and built.
+-- `Keeps` are the rules of a record, and `recordBytes` its bytes. Rests on build and build_laws.
 use Prim.Native.Nat.{ℕ, _<_, _≤_}
 use mathlib.Core.Path.{_≡_}
 use mathlib.Core.List.{List}
@@ -15,11 +15,11 @@ use Rattle.record.specs.Shown.{Kind, Shown}
 use Rattle.record.specs.declared.Reading.the-variants.{Accepted}
 use Rattle.contents.specs.Contents.{shownOf}
 use Rattle.encode.specs.Encode.{typeFor}
-use Rattle.append.specs.Values.{writtenAs}
-use Rattle.built.specs.Records.{recordBytes, All, Fit, Keeps}
-use Rattle.built.specs.Runs.{Turn, turnsOf, gives, FitTurn, Finished}
-use Rattle.built.specs.Builds.{wrote, ReadsBack, Tight, Builds}
-use Rattle.built.specs.Widths.{between, shownAgain}
+use Rattle.build_append.specs.Values.{writtenAs}
+use Rattle.build_laws.specs.Records.{recordBytes, All, Fit, Keeps}
+use Rattle.build_laws.specs.Runs.{Turn, turnsOf, gives, FitTurn, Finished}
+use Rattle.build_laws.specs.Builds.{wrote, ReadsBack, Tight, Builds}
+use Rattle.build_laws.specs.Widths.{between, shownAgain}
 
 pub record Building : Type 0 where
   -- what was built reads back as given: the buffer is accepted under the same four numbers, with the length that the state says, and shows the

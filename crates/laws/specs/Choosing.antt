@@ -12,16 +12,16 @@ use Rattle.fixed.specs.declared.Site.{Site}
 use Rattle.genotypes.specs.declared.Gt.{Gt}
 use Rattle.record.specs.Reading.{reading}
 use Rattle.record.specs.declared.Reading.the-variants.{Accepted}
-use Rattle.fetched.specs.InTurn.{Accepts}
+use Rattle.fetch_laws.specs.InTurn.{Accepts}
 use Rattle.contents.specs.Contents.{shownOf}
 use Rattle.calls.specs.Totals.{together}
 use Rattle.tally.specs.Tally.{tallied}
 use Rattle.tally.specs.declared.Counting.the-variants.{Counted}
-use Rattle.people.specs.Choice.{ascending}
+use Rattle.choice.specs.Choice.{ascending}
 use Rattle.choose.specs.Chosen.{chosenRecord}
 use Rattle.choose.specs.Choose.{choosing, afterChoosing}
-use Rattle.chosen.specs.Releases.{forPeople, releasedSite, released, everybody, composed}
-use Rattle.chosen.specs.Divisions.{Division}
+use Rattle.choose_laws.specs.Releases.{forPeople, releasedSite, released, everybody, composed}
+use Rattle.choose_laws.specs.Divisions.{Division}
 
 -- bytes that begin with a record that is accepted, and a choice of its people
 pub record Choice (f : Facts) (s : List ℕ) (t : Site) (g : Gt) (cs : List ℕ) : Type 0 where

@@ -10,8 +10,8 @@ use Rattle.tally.specs.declared.Counting.the-variants.{Counted}
 use Rattle.choose.specs.Chosen.{chosenRecord}
 use Rattle.choose.specs.Choose.{choosing}
 use Rattle.choose.specs.declared.Choosing.the-variants.{Chosen, Refused}
-use Rattle.chosen.specs.Releases.{forPeople, releasedSite}
-use Rattle.chosen.specs.Divisions.{Division}
+use Rattle.choose_laws.specs.Releases.{forPeople, releasedSite}
+use Rattle.choose_laws.specs.Divisions.{Division}
 use Rattle.laws.specs.Sample.{facts, sampleFront, sampleFields, sample, sampleSite}
 use lib.ListN.{replicate}
 

@@ -20,7 +20,7 @@ use Rattle.tally.specs.Tally.{tallied}
 use Rattle.fixed.specs.Layout.{indivAt, field}
 use Rattle.fetch.specs.Fetch.{fetched}
 use Rattle.fetch.specs.declared.Kind.the-variants.{Format}
-use Rattle.chosen.specs.Releases.{forPeople}
+use Rattle.choose_laws.specs.Releases.{forPeople}
 use Rattle.laws.specs.Cut.{second}
 use Rattle.laws.specs.Sample.{facts, sample}
 

@@ -14,8 +14,8 @@ use Rattle.contents.specs.Contents.{shownOf}
 use Rattle.tally.specs.Tally.{tallied}
 use Rattle.tally.specs.declared.Counting.the-variants.{Counted}
 use Rattle.frames.specs.Frames.{recordLine}
-use Rattle.built.specs.Records.{recordBytes}
-use Rattle.built.specs.Builds.{Tight}
+use Rattle.build_laws.specs.Records.{recordBytes}
+use Rattle.build_laws.specs.Builds.{Tight}
 
 -- four strings, one contig, two people, GT at offset 3
 abbrev pub facts : Facts

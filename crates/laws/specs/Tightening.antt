@@ -1,5 +1,5 @@
 -- Tightening: any accepted record, built again from what reading shows of it. `Keeps` are the rules of a record, `recordBytes` its bytes, and `Tight`
--- is a record that some build wrote; `Bytes s` says that each number of the list is a byte. Rests on reading, built and keeps_laws.
+-- is a record that some build wrote; `Bytes s` says that each number of the list is a byte. Rests on reading, build_laws and keeps_laws.
 use Prim.Native.Nat.{ℕ, _≤_}
 use mathlib.Core.Path.{_≡_}
 use mathlib.Core.List.{List}
@@ -11,8 +11,8 @@ use Rattle.genotypes.specs.declared.Gt.{Gt}
 use Rattle.record.specs.Reading.{reading}
 use Rattle.record.specs.declared.Reading.the-variants.{Accepted}
 use Rattle.contents.specs.Contents.{shownOf}
-use Rattle.built.specs.Records.{recordBytes, Keeps}
-use Rattle.built.specs.Builds.{Tight, Builds}
+use Rattle.build_laws.specs.Records.{recordBytes, Keeps}
+use Rattle.build_laws.specs.Builds.{Tight, Builds}
 use Rattle.keeps_laws.specs.Tightened.{Tightened}
 
 pub record Tightening : Type 0 where

@@ -23,9 +23,9 @@ use Rattle.genotypes.specs.declared.Gt.{Gt}
 use Rattle.record.specs.Reading.{reading, siteOf}
 use Rattle.record.specs.declared.Reading.the-variants.{Accepted}
 use Rattle.record.proofs.Accepted.{accepted, accepted-fits}
-use Rattle.fetched.proofs.Agree.{went, times-passed, info-passed}
+use Rattle.fetch_laws.proofs.Agree.{went, times-passed, info-passed}
 use Rattle.fetch.proofs.Inside.{passing-later, past-later}
-use Rattle.fetched.proofs.There.{judged-passed, Walk, site-walk, found-in, found-none}
+use Rattle.fetch_laws.proofs.There.{judged-passed, Walk, site-walk, found-in, found-none}
 use Rattle.fetch.specs.Fields.{paired, fieldAt}
 use Rattle.fetch.specs.Passing.{fieldStep, passing, past, toInfo, toField, fieldIn}
 use Rattle.fetch.specs.Account.{account, ofKind, numbered}

@@ -9,53 +9,41 @@ use Rattle.bcfcut.proofs.add_release.Lts as lts
 use Rattle.bcfcut.proofs.make_room.Reads as make-room-reads
 use Rattle.cuts.proofs.release_line.Reads as release-line-reads
 
--- src/main.rt:45:9
 make-room-requires : tie.Need-make-room-requires
 make-room-requires c κs = search needs
 
--- src/main.rt:46:47
 sub-release-line : tie.Need-sub-release-line
 sub-release-line c = search needs
 
--- src/main.rt:46:47
 part-release-line-start : tie.Need-part-release-line-start
 part-release-line-start c = search needs
 
--- src/main.rt:46:47
 part-release-line-end : tie.Need-part-release-line-end
 part-release-line-end c = search needs
 
--- src/main.rt:46:9
 release-line-requires : tie.Need-release-line-requires
 release-line-requires c κs = search needs
 
--- src/main.rt:47:22
 enum-known-a : tie.Need-enum-known-a
 enum-known-a c = search needs
 
--- src/main.rt:48:9
 enum-told : tie.Need-enum-told
 enum-told c = search needs
 
--- src/main.rt:48:9
 same-length : tie.Need-same-length
 same-length c = search needs
 
--- src/main.rt:48:9
 returns : tie.Need-returns
 returns c = search needs
 
--- src/main.rt:50:5
 add-result : tie.Need-add-result
 add-result c =
     let i = rw (c .before .a .given .1) at (c .before .before .before .before .before .release-line .ensures .1 .0) in
     omega (arith, simp (length-take, length-drop) at i, c .before .before .before .before .before .before .before .make-room .ensures)
 
--- src/main.rt:41:1
 same-length-2 : tie.Need-same-length-2
 same-length-2 c = search needs
 
--- src/main.rt:41:1
 returns-2 : tie.Need-returns-2
 returns-2 c =
     let i = rw (c .before .a .given .1) at (c .before .before .before .before .before .release-line .ensures .1 .0) in

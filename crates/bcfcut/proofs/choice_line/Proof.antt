@@ -10,49 +10,38 @@ use Rattle.bcfcut.proofs.add_release.Reads as add-release-reads
 use Rattle.hexadecimal.proofs.read_choice.Reads as read-choice-reads
 use Rattle.io.proofs.write_all.Reads as write-all-reads
 
--- src/main.rt:107:9
 read-choice-requires : tie.Need-read-choice-requires
 read-choice-requires c κs = search needs
 
--- src/main.rt:108:28
 enum-known-c : tie.Need-enum-known-c
 enum-known-c c = search needs
 
--- src/main.rt:109:26
 slice-aggregate-write-all : tie.Need-slice-aggregate-write-all
 slice-aggregate-write-all c = search needs
 
--- src/main.rt:109:9
 write-all-requires : tie.Need-write-all-requires
 write-all-requires c κs = search needs
 
--- src/main.rt:110:9
 same-length : tie.Need-same-length
 same-length c = search needs
 
--- src/main.rt:110:9
 returns : tie.Need-returns
 returns c = search needs
 
--- src/main.rt:121:37
 cast-add-release : tie.Need-cast-add-release
 cast-add-release c =
     let i = rw (c .before .c .given .1) at (c .before .before .before .before .before .read-choice .ensures .1 .0) in
     omega (arith, i)
 
--- src/main.rt:121:18
 add-release-requires : tie.Need-add-release-requires
 add-release-requires c κs = search needs
 
--- src/main.rt:97:1
 same-length-2 : tie.Need-same-length-2
 same-length-2 c = search needs
 
--- src/main.rt:97:1
 same-length-3 : tie.Need-same-length-3
 same-length-3 c = search needs
 
--- src/main.rt:97:1
 returns-2 : tie.Need-returns-2
 returns-2 c =
     let i = rw (c .before .before .before .before .before .c .given .1) at (c .before .before .before .before .before .before .before .before .before .read-choice .ensures .1 .0) in

@@ -9,32 +9,25 @@ use Rattle.bcfcut.proofs.finish.Lts as lts
 use Rattle.bcfcut.proofs.is_early.Reads as is-early-reads
 use Rattle.io.proofs.write_all.Reads as write-all-reads
 
--- src/main.rt:291:22
 slice-aggregate-write-all : tie.Need-slice-aggregate-write-all
 slice-aggregate-write-all c =
     sym (length-take-le _ _ (c .before .before .pre))
 
--- src/main.rt:291:5
 write-all-requires : tie.Need-write-all-requires
 write-all-requires c κs = search needs
 
--- src/main.rt:292:8
 is-early-requires : tie.Need-is-early-requires
 is-early-requires c κs = search needs
 
--- src/main.rt:293:26
 slice-aggregate-write-all-2 : tie.Need-slice-aggregate-write-all-2
 slice-aggregate-write-all-2 c = search needs
 
--- src/main.rt:293:9
 write-all-requires-2 : tie.Need-write-all-requires-2
 write-all-requires-2 c κs = search needs
 
--- src/main.rt:286:1
 returns : tie.Need-returns
 returns c = search needs
 
--- src/main.rt:286:1
 returns-2 : tie.Need-returns-2
 returns-2 c = search needs
 

@@ -8,36 +8,28 @@ use Rattle.bcfcut.proofs.last_line.Reads as reads
 use Rattle.bcfcut.proofs.last_line.Lts as lts
 use Rattle.bcfcut.proofs.take_line.Reads as take-line-reads
 
--- src/main.rt:277:9
 returns : tie.Need-returns
 returns c = search needs
 
--- src/main.rt:279:22
 slice-aggregate-take-line : tie.Need-slice-aggregate-take-line
 slice-aggregate-take-line c =
     sym (length-take-le _ _ (c .before .before .before .before .before .before .before .pre .2))
 
--- src/main.rt:279:5
 take-line-requires : tie.Need-take-line-requires
 take-line-requires c κs = search needs
 
--- src/main.rt:264:1
 same-length : tie.Need-same-length
 same-length c = search needs
 
--- src/main.rt:264:1
 same-length-2 : tie.Need-same-length-2
 same-length-2 c = search needs
 
--- src/main.rt:264:1
 same-length-3 : tie.Need-same-length-3
 same-length-3 c = search needs
 
--- src/main.rt:264:1
 same-length-4 : tie.Need-same-length-4
 same-length-4 c = search needs
 
--- src/main.rt:264:1
 returns-2 : tie.Need-returns-2
 returns-2 c = search needs
 

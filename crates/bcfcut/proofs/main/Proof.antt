@@ -30,104 +30,79 @@ abbrev μ-loop : tie.MeasureT-loop
 μ-loop piece₀ line₀ choice₀ frame₀ chosen₀ out₀ s₀ turns₀ piece line choice frame chosen out s turns =
     turns
 
--- src/main.rt:313:5
 loop-holds : tie.Need-loop-holds Inv-loop μ-loop
 loop-holds c =
     (search needs, search needs, search needs, search needs, search needs, search needs, search needs, search needs, search needs)
 
--- src/main.rt:314:33
 slice-aggregate-read : tie.Need-slice-aggregate-read Inv-loop μ-loop
 slice-aggregate-read c = search needs
 
--- src/main.rt:314:13
 read-requires : tie.Need-read-requires Inv-loop μ-loop
 read-requires c κs = search needs
 
--- src/main.rt:315:32
 slice-aggregate-count : tie.Need-slice-aggregate-count Inv-loop μ-loop
 slice-aggregate-count c = search needs
 
--- src/main.rt:315:13
 count-requires : tie.Need-count-requires Inv-loop μ-loop
 count-requires c κs = search needs
 
--- src/main.rt:318:13
 array-share-prefix-piece : tie.Need-array-share-prefix-piece Inv-loop μ-loop
 array-share-prefix-piece c = search needs
 
--- src/main.rt:318:13
 slice-aggregate-take-piece : tie.Need-slice-aggregate-take-piece Inv-loop μ-loop
 slice-aggregate-take-piece c = search needs
 
--- src/main.rt:319:13
 slice-aggregate-take-piece-2 : tie.Need-slice-aggregate-take-piece-2 Inv-loop μ-loop
 slice-aggregate-take-piece-2 c = search needs
 
--- src/main.rt:320:13
 slice-aggregate-take-piece-3 : tie.Need-slice-aggregate-take-piece-3 Inv-loop μ-loop
 slice-aggregate-take-piece-3 c = search needs
 
--- src/main.rt:321:13
 slice-aggregate-take-piece-4 : tie.Need-slice-aggregate-take-piece-4 Inv-loop μ-loop
 slice-aggregate-take-piece-4 c = search needs
 
--- src/main.rt:322:13
 slice-aggregate-take-piece-5 : tie.Need-slice-aggregate-take-piece-5 Inv-loop μ-loop
 slice-aggregate-take-piece-5 c = search needs
 
--- src/main.rt:323:13
 slice-aggregate-take-piece-6 : tie.Need-slice-aggregate-take-piece-6 Inv-loop μ-loop
 slice-aggregate-take-piece-6 c = search needs
 
--- src/main.rt:316:9
 take-piece-requires : tie.Need-take-piece-requires Inv-loop μ-loop
 take-piece-requires c κs = search needs
 
--- src/main.rt:326:9
 turns-left-requires : tie.Need-turns-left-requires Inv-loop μ-loop
 turns-left-requires c κs = search needs
 
--- src/main.rt:313:5
 loop-less : tie.Need-loop-less Inv-loop μ-loop
 loop-less c = search needs
 
--- src/main.rt:313:5
 loop-again : tie.Need-loop-again Inv-loop μ-loop
 loop-again c = search needs
 
--- src/main.rt:328:22
 slice-aggregate-last-line : tie.Need-slice-aggregate-last-line Inv-loop μ-loop
 slice-aggregate-last-line c = search needs
 
--- src/main.rt:328:29
 slice-aggregate-last-line-2 : tie.Need-slice-aggregate-last-line-2 Inv-loop μ-loop
 slice-aggregate-last-line-2 c = search needs
 
--- src/main.rt:328:42
 slice-aggregate-last-line-3 : tie.Need-slice-aggregate-last-line-3 Inv-loop μ-loop
 slice-aggregate-last-line-3 c = search needs
 
--- src/main.rt:328:54
 slice-aggregate-last-line-4 : tie.Need-slice-aggregate-last-line-4 Inv-loop μ-loop
 slice-aggregate-last-line-4 c = search needs
 
--- src/main.rt:328:67
 slice-aggregate-last-line-5 : tie.Need-slice-aggregate-last-line-5 Inv-loop μ-loop
 slice-aggregate-last-line-5 c = search needs
 
--- src/main.rt:328:5
 last-line-requires : tie.Need-last-line-requires Inv-loop μ-loop
 last-line-requires c κs = search needs
 
--- src/main.rt:329:15
 slice-aggregate-finish : tie.Need-slice-aggregate-finish Inv-loop μ-loop
 slice-aggregate-finish c = search needs
 
--- src/main.rt:329:5
 finish-requires : tie.Need-finish-requires Inv-loop μ-loop
 finish-requires c κs = search needs
 
--- src/main.rt:297:1
 returns : tie.Need-returns Inv-loop μ-loop
 returns c = search needs
 

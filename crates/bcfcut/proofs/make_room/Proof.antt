@@ -8,24 +8,19 @@ use Rattle.bcfcut.proofs.make_room.Reads as reads
 use Rattle.bcfcut.proofs.make_room.Lts as lts
 use Rattle.io.proofs.write_all.Reads as write-all-reads
 
--- src/main.rt:33:8
 sub-if1 : tie.Need-sub-if1
 sub-if1 c = search needs
 
--- src/main.rt:34:26
 slice-aggregate-write-all : tie.Need-slice-aggregate-write-all
 slice-aggregate-write-all c =
     sym (length-take-le _ _ (c .before .before .before .pre))
 
--- src/main.rt:34:9
 write-all-requires : tie.Need-write-all-requires
 write-all-requires c κs = search needs
 
--- src/main.rt:35:9
 returns : tie.Need-returns
 returns c = search needs
 
--- src/main.rt:29:1
 returns-2 : tie.Need-returns-2
 returns-2 c = search needs
 

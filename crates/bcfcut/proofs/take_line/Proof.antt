@@ -10,80 +10,61 @@ use Rattle.bcfcut.proofs.add_record.Reads as add-record-reads
 use Rattle.bcfcut.proofs.choice_line.Reads as choice-line-reads
 use Rattle.bcfcut.proofs.first_line.Reads as first-line-reads
 
--- src/main.rt:142:20
 enum-told : tie.Need-enum-told
 enum-told c = search needs
 
--- src/main.rt:142:20
 first-line-requires : tie.Need-first-line-requires
 first-line-requires c κs = search needs
 
--- src/main.rt:147:23
 enum-known-stage : tie.Need-enum-known-stage
 enum-known-stage c = search needs
 
--- src/main.rt:147:33
 choice-line-requires : tie.Need-choice-line-requires
 choice-line-requires c κs = search needs
 
--- src/main.rt:148:24
 enum-known-stage-2 : tie.Need-enum-known-stage-2
 enum-known-stage-2 c = search needs
 
--- src/main.rt:152:46
 slice-reshare-prefix-add-record : tie.Need-slice-reshare-prefix-add-record
 slice-reshare-prefix-add-record c = search needs
 
--- src/main.rt:152:46
 slice-aggregate-add-record : tie.Need-slice-aggregate-add-record
 slice-aggregate-add-record c =
     sym (length-take-le _ _ (c .before .before .before .before .before .before .before .before .before .pre .1))
 
--- src/main.rt:152:22
 add-record-requires : tie.Need-add-record-requires
 add-record-requires c κs = search needs
 
--- src/main.rt:154:25
 enum-told-2 : tie.Need-enum-told-2
 enum-told-2 c = search needs
 
--- src/main.rt:126:1
 returns : tie.Need-returns
 returns c = search needs
 
--- src/main.rt:126:1
 same-length : tie.Need-same-length
 same-length c = search needs
 
--- src/main.rt:126:1
 same-length-2 : tie.Need-same-length-2
 same-length-2 c = search needs
 
--- src/main.rt:126:1
 returns-2 : tie.Need-returns-2
 returns-2 c = search needs
 
--- src/main.rt:126:1
 same-length-3 : tie.Need-same-length-3
 same-length-3 c = search needs
 
--- src/main.rt:126:1
 same-length-4 : tie.Need-same-length-4
 same-length-4 c = search needs
 
--- src/main.rt:126:1
 same-length-5 : tie.Need-same-length-5
 same-length-5 c = search needs
 
--- src/main.rt:126:1
 same-length-6 : tie.Need-same-length-6
 same-length-6 c = search needs
 
--- src/main.rt:126:1
 returns-3 : tie.Need-returns-3
 returns-3 c = search needs
 
--- src/main.rt:126:1
 returns-4 : tie.Need-returns-4
 returns-4 c = search needs
 

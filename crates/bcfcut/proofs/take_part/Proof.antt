@@ -10,80 +10,61 @@ use Rattle.bcfcut.proofs.take_part.Lts as lts
 use Rattle.bcfcut.proofs.take_line.Reads as take-line-reads
 use Rattle.lines.proofs.hold.Reads as hold-reads
 
--- src/main.rt:180:13
 take-line-requires : tie.Need-take-line-requires
 take-line-requires c κs = search needs
 
--- src/main.rt:180:13
 same-length : tie.Need-same-length
 same-length c = search needs
 
--- src/main.rt:180:13
 same-length-2 : tie.Need-same-length-2
 same-length-2 c = search needs
 
--- src/main.rt:180:13
 same-length-3 : tie.Need-same-length-3
 same-length-3 c = search needs
 
--- src/main.rt:180:13
 same-length-4 : tie.Need-same-length-4
 same-length-4 c = search needs
 
--- src/main.rt:180:13
 returns : tie.Need-returns
 returns c = search needs
 
--- src/main.rt:182:13
 hold-requires : tie.Need-hold-requires
 hold-requires c κs = search needs
 
--- src/main.rt:183:33
 slice-reshare-prefix-take-line : tie.Need-slice-reshare-prefix-take-line
 slice-reshare-prefix-take-line c = search needs
 
--- src/main.rt:183:33
 slice-aggregate-take-line : tie.Need-slice-aggregate-take-line
 slice-aggregate-take-line c =
     sym (length-take-le _ _ (omega (arith, c .before .before .before .hold .ensures .1 .0, c .before .before .before .hold .kept)))
 
--- src/main.rt:183:9
 take-line-requires-2 : tie.Need-take-line-requires-2
 take-line-requires-2 c κs = search needs
 
--- src/main.rt:183:9
 same-length-5 : tie.Need-same-length-5
 same-length-5 c = search needs
 
--- src/main.rt:183:9
 same-length-6 : tie.Need-same-length-6
 same-length-6 c = search needs
 
--- src/main.rt:183:9
 same-length-7 : tie.Need-same-length-7
 same-length-7 c = search needs
 
--- src/main.rt:183:9
 same-length-8 : tie.Need-same-length-8
 same-length-8 c = search needs
 
--- src/main.rt:183:9
 same-length-9 : tie.Need-same-length-9
 same-length-9 c = search needs
 
--- src/main.rt:183:9
 returns-2 : tie.Need-returns-2
 returns-2 c = search needs
 
--- src/main.rt:188:9
 hold-requires-2 : tie.Need-hold-requires-2
 hold-requires-2 c κs = search needs
 
--- src/main.rt:164:1
 same-length-10 : tie.Need-same-length-10
 same-length-10 c = search needs
 
--- src/main.rt:164:1
 returns-3 : tie.Need-returns-3
 returns-3 c = search needs
 

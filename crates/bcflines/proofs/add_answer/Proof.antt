@@ -9,61 +9,47 @@ use Rattle.bcflines.proofs.add_answer.Lts as lts
 use Rattle.bcflines.proofs.make_room.Reads as make-room-reads
 use Rattle.frames.proofs.answer_line.Reads as answer-line-reads
 
--- src/main.rt:74:9
 make-room-requires : tie.Need-make-room-requires
 make-room-requires c κs = search needs
 
--- src/main.rt:75:53
 sub-answer-line : tie.Need-sub-answer-line
 sub-answer-line c = search needs
 
--- src/main.rt:75:53
 part-answer-line-start : tie.Need-part-answer-line-start
 part-answer-line-start c = search needs
 
--- src/main.rt:75:53
 part-answer-line-end : tie.Need-part-answer-line-end
 part-answer-line-end c = search needs
 
--- src/main.rt:75:9
 answer-line-requires : tie.Need-answer-line-requires
 answer-line-requires c κs = search needs
 
--- src/main.rt:76:22
 enum-known-a : tie.Need-enum-known-a
 enum-known-a c = search needs
 
--- src/main.rt:77:9
 enum-told : tie.Need-enum-told
 enum-told c = search needs
 
--- src/main.rt:77:9
 same-length : tie.Need-same-length
 same-length c = search needs
 
--- src/main.rt:77:9
 same-length-2 : tie.Need-same-length-2
 same-length-2 c = search needs
 
--- src/main.rt:77:9
 returns : tie.Need-returns
 returns c = search needs
 
--- src/main.rt:79:5
 add-result : tie.Need-add-result
 add-result c =
     let i = rw (c .before .a .given .1) at (c .before .before .before .before .before .before .before .answer-line .ensures .1 .0) in
     omega (arith, simp (length-take, length-drop) at i, c .before .before .before .before .before .before .before .before .before .before .make-room .ensures)
 
--- src/main.rt:70:1
 same-length-3 : tie.Need-same-length-3
 same-length-3 c = search needs
 
--- src/main.rt:70:1
 same-length-4 : tie.Need-same-length-4
 same-length-4 c = search needs
 
--- src/main.rt:70:1
 returns-2 : tie.Need-returns-2
 returns-2 c =
     let i = rw (c .before .a .given .1) at (c .before .before .before .before .before .before .before .answer-line .ensures .1 .0) in

@@ -10,83 +10,63 @@ use Rattle.bcflines.proofs.finish.Lts as lts
 use Rattle.bcflines.proofs.take_line.Reads as take-line-reads
 use Rattle.io.proofs.write_all.Reads as write-all-reads
 
--- src/main.rt:199:37
 slice-reshare-prefix-take-line : tie.Need-slice-reshare-prefix-take-line
 slice-reshare-prefix-take-line c = search needs
 
--- src/main.rt:199:37
 slice-aggregate-take-line : tie.Need-slice-aggregate-take-line
 slice-aggregate-take-line c = sym (length-take-le _ _ (c .before .before .before .before .before .pre .0))
 
--- src/main.rt:199:13
 take-line-requires : tie.Need-take-line-requires
 take-line-requires c κs = search needs
 
--- src/main.rt:201:26
 slice-reshare-prefix-write-all : tie.Need-slice-reshare-prefix-write-all
 slice-reshare-prefix-write-all c = search needs
 
--- src/main.rt:201:26
 slice-aggregate-write-all : tie.Need-slice-aggregate-write-all
 slice-aggregate-write-all c = sym (length-take-le _ _ (omega (arith, c .before .before .before .before .before .take-line .ensures .1, c .before .before .before .before .before .take-line .kept)))
 
--- src/main.rt:201:9
 write-all-requires : tie.Need-write-all-requires
 write-all-requires c κs = search needs
 
--- src/main.rt:202:9
 same-length : tie.Need-same-length
 same-length c = search needs
 
--- src/main.rt:202:9
 same-length-2 : tie.Need-same-length-2
 same-length-2 c = search needs
 
--- src/main.rt:202:9
 same-length-3 : tie.Need-same-length-3
 same-length-3 c = search needs
 
--- src/main.rt:202:9
 returns : tie.Need-returns
 returns c = search needs
 
--- src/main.rt:204:22
 slice-reshare-prefix-write-all-2 : tie.Need-slice-reshare-prefix-write-all-2
 slice-reshare-prefix-write-all-2 c = search needs
 
--- src/main.rt:204:22
 slice-aggregate-write-all-2 : tie.Need-slice-aggregate-write-all-2
 slice-aggregate-write-all-2 c = sym (length-take-le _ _ (omega arith))
 
--- src/main.rt:204:5
 write-all-requires-2 : tie.Need-write-all-requires-2
 write-all-requires-2 c κs = search needs
 
--- src/main.rt:206:26
 enum-told : tie.Need-enum-told
 enum-told c = search needs
 
--- src/main.rt:206:26
 slice-aggregate-write-all-3 : tie.Need-slice-aggregate-write-all-3
 slice-aggregate-write-all-3 c = search needs
 
--- src/main.rt:206:9
 write-all-requires-3 : tie.Need-write-all-requires-3
 write-all-requires-3 c κs = search needs
 
--- src/main.rt:192:1
 same-length-4 : tie.Need-same-length-4
 same-length-4 c = search needs
 
--- src/main.rt:192:1
 returns-2 : tie.Need-returns-2
 returns-2 c = search needs
 
--- src/main.rt:192:1
 same-length-5 : tie.Need-same-length-5
 same-length-5 c = search needs
 
--- src/main.rt:192:1
 returns-3 : tie.Need-returns-3
 returns-3 c = search needs
 

@@ -20,79 +20,60 @@ Inv-loop piece₀ line₀ frame₀ out₀ s₀ turns₀ piece line frame out s t
 abbrev μ-loop : tie.MeasureT-loop
 μ-loop piece₀ line₀ frame₀ out₀ s₀ turns₀ piece line frame out s turns = turns
 
--- src/main.rt:236:5
 loop-holds : tie.Need-loop-holds Inv-loop μ-loop
 loop-holds c = search needs
 
--- src/main.rt:237:33
 slice-aggregate-read : tie.Need-slice-aggregate-read Inv-loop μ-loop
 slice-aggregate-read c = search needs
 
--- src/main.rt:237:13
 read-requires : tie.Need-read-requires Inv-loop μ-loop
 read-requires c κs = search needs
 
--- src/main.rt:238:32
 slice-aggregate-count : tie.Need-slice-aggregate-count Inv-loop μ-loop
 slice-aggregate-count c = search needs
 
--- src/main.rt:238:13
 count-requires : tie.Need-count-requires Inv-loop μ-loop
 count-requires c κs = search needs
 
--- src/main.rt:239:27
 array-share-prefix-piece : tie.Need-array-share-prefix-piece Inv-loop μ-loop
 array-share-prefix-piece c = search needs
 
--- src/main.rt:239:27
 slice-aggregate-take-piece : tie.Need-slice-aggregate-take-piece Inv-loop μ-loop
 slice-aggregate-take-piece c = search needs
 
--- src/main.rt:239:40
 slice-aggregate-take-piece-2 : tie.Need-slice-aggregate-take-piece-2 Inv-loop μ-loop
 slice-aggregate-take-piece-2 c = search needs
 
--- src/main.rt:239:51
 slice-aggregate-take-piece-3 : tie.Need-slice-aggregate-take-piece-3 Inv-loop μ-loop
 slice-aggregate-take-piece-3 c = search needs
 
--- src/main.rt:239:63
 slice-aggregate-take-piece-4 : tie.Need-slice-aggregate-take-piece-4 Inv-loop μ-loop
 slice-aggregate-take-piece-4 c = search needs
 
--- src/main.rt:239:9
 take-piece-requires : tie.Need-take-piece-requires Inv-loop μ-loop
 take-piece-requires c κs = search needs
 
--- src/main.rt:241:9
 turns-left-requires : tie.Need-turns-left-requires Inv-loop μ-loop
 turns-left-requires c κs = search needs
 
--- src/main.rt:236:5
 loop-less : tie.Need-loop-less Inv-loop μ-loop
 loop-less c = search needs
 
--- src/main.rt:236:5
 loop-again : tie.Need-loop-again Inv-loop μ-loop
 loop-again c = search needs
 
--- src/main.rt:243:15
 slice-aggregate-finish : tie.Need-slice-aggregate-finish Inv-loop μ-loop
 slice-aggregate-finish c = search needs
 
--- src/main.rt:243:26
 slice-aggregate-finish-2 : tie.Need-slice-aggregate-finish-2 Inv-loop μ-loop
 slice-aggregate-finish-2 c = search needs
 
--- src/main.rt:243:38
 slice-aggregate-finish-3 : tie.Need-slice-aggregate-finish-3 Inv-loop μ-loop
 slice-aggregate-finish-3 c = search needs
 
--- src/main.rt:243:5
 finish-requires : tie.Need-finish-requires Inv-loop μ-loop
 finish-requires c κs = search needs
 
--- src/main.rt:224:1
 returns : tie.Need-returns Inv-loop μ-loop
 returns c = search needs
 

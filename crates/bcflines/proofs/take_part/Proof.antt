@@ -10,63 +10,48 @@ use Rattle.bcflines.proofs.take_part.Lts as lts
 use Rattle.lines.proofs.hold.Reads as hold-reads
 use Rattle.bcflines.proofs.take_line.Reads as take-line-reads
 
--- src/main.rt:145:13
 take-line-requires : tie.Need-take-line-requires
 take-line-requires c κs = search needs
 
--- src/main.rt:145:13
 same-length : tie.Need-same-length
 same-length c = search needs
 
--- src/main.rt:145:13
 same-length-2 : tie.Need-same-length-2
 same-length-2 c = search needs
 
--- src/main.rt:145:13
 returns : tie.Need-returns
 returns c = search needs
 
--- src/main.rt:147:13
 hold-requires : tie.Need-hold-requires
 hold-requires c κs = search needs
 
--- src/main.rt:148:33
 slice-reshare-prefix-take-line : tie.Need-slice-reshare-prefix-take-line
 slice-reshare-prefix-take-line c = search needs
 
--- src/main.rt:148:33
 slice-aggregate-take-line : tie.Need-slice-aggregate-take-line
 slice-aggregate-take-line c = sym (length-take-le _ _ (omega (arith, c .before .before .before .hold .ensures, c .before .before .before .hold .kept)))
 
--- src/main.rt:148:9
 take-line-requires-2 : tie.Need-take-line-requires-2
 take-line-requires-2 c κs = search needs
 
--- src/main.rt:148:9
 same-length-3 : tie.Need-same-length-3
 same-length-3 c = search needs
 
--- src/main.rt:148:9
 same-length-4 : tie.Need-same-length-4
 same-length-4 c = search needs
 
--- src/main.rt:148:9
 same-length-5 : tie.Need-same-length-5
 same-length-5 c = search needs
 
--- src/main.rt:148:9
 returns-2 : tie.Need-returns-2
 returns-2 c = search needs
 
--- src/main.rt:150:9
 hold-requires-2 : tie.Need-hold-requires-2
 hold-requires-2 c κs = search needs
 
--- src/main.rt:129:1
 same-length-6 : tie.Need-same-length-6
 same-length-6 c = search needs
 
--- src/main.rt:129:1
 returns-3 : tie.Need-returns-3
 returns-3 c = search needs
 

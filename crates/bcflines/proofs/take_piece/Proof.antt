@@ -17,71 +17,54 @@ Inv-loop piece line₀ frame₀ out₀ s₀ at₀ line frame out s at =
 abbrev μ-loop : tie.MeasureT-loop
 μ-loop piece line₀ frame₀ out₀ s₀ at₀ line frame out s at = length piece - at
 
--- src/main.rt:171:5
 loop-holds : tie.Need-loop-holds Inv-loop μ-loop
 loop-holds c = search needs
 
--- src/main.rt:172:13
 line-end-requires : tie.Need-line-end-requires Inv-loop μ-loop
 line-end-requires c κs = search needs
 
--- src/main.rt:173:26
 sub-take-part : tie.Need-sub-take-part Inv-loop μ-loop
 sub-take-part c = search needs
 
--- src/main.rt:173:26
 part-take-part-start : tie.Need-part-take-part-start Inv-loop μ-loop
 part-take-part-start c = search needs
 
--- src/main.rt:173:26
 part-take-part-end : tie.Need-part-take-part-end Inv-loop μ-loop
 part-take-part-end c = search needs
 
--- src/main.rt:173:9
 take-part-requires : tie.Need-take-part-requires Inv-loop μ-loop
 take-part-requires c κs = search needs
 
--- src/main.rt:175:13
 same-length : tie.Need-same-length Inv-loop μ-loop
 same-length c = search needs
 
--- src/main.rt:175:13
 same-length-2 : tie.Need-same-length-2 Inv-loop μ-loop
 same-length-2 c = search needs
 
--- src/main.rt:175:13
 same-length-3 : tie.Need-same-length-3 Inv-loop μ-loop
 same-length-3 c = search needs
 
--- src/main.rt:175:13
 returns : tie.Need-returns Inv-loop μ-loop
 returns c = search needs
 
--- src/main.rt:177:14
 add-at : tie.Need-add-at Inv-loop μ-loop
 add-at c = search needs
 
--- src/main.rt:171:5
 loop-less : tie.Need-loop-less Inv-loop μ-loop
 loop-less c = search needs
 
--- src/main.rt:171:5
 loop-again : tie.Need-loop-again Inv-loop μ-loop
 loop-again c = search needs
 
--- src/main.rt:159:1
 same-length-4 : tie.Need-same-length-4 Inv-loop μ-loop
 same-length-4 c = search needs
 
--- src/main.rt:159:1
 same-length-5 : tie.Need-same-length-5 Inv-loop μ-loop
 same-length-5 c = search needs
 
--- src/main.rt:159:1
 same-length-6 : tie.Need-same-length-6 Inv-loop μ-loop
 same-length-6 c = search needs
 
--- src/main.rt:159:1
 returns-2 : tie.Need-returns-2 Inv-loop μ-loop
 returns-2 c = search needs
 

@@ -2,35 +2,31 @@
 use mathlib.Core.Path.{_∙_, refl, ap}
 use native.Mathlib.Nat.{add-zero}
 use native.Mathlib.Omega.{arith}
-use Rattle.rules.specs.Rules.{wrongAllele}
+use Rattle.build_rules.specs.Rules.{wrongAllele}
 use Rattle.build.specs.Turns.{alleleRules, alleleGiven, afterAllele}
 use Rattle.build.specs.declared.Stage.the-variants.{Alleles}
-use Rattle.append.proofs.Writing.{written-room, written-rules}
+use Rattle.build_append.proofs.Writing.{written-room, written-rules}
 use Rattle.build.proofs.Answers.{site-answer, after-written}
-use Rattle.rules.proofs.Numbers.{count-below}
+use Rattle.build_rules.proofs.Numbers.{count-below}
 use borrow.Author.Needs.{needs}
 use Rattle.build.proofs.allele.Statement.{statement}
 use Rattle.build.proofs.allele.Tie as tie
 use Rattle.build.proofs.allele.Reads as reads
 use Rattle.build.proofs.allele.Lts as lts
-use Rattle.rules.proofs.allele_number.Reads as allele-number-reads
-use Rattle.append.proofs.append_text.Reads as append-text-reads
+use Rattle.build_rules.proofs.allele_number.Reads as allele-number-reads
+use Rattle.build_append.proofs.append_text.Reads as append-text-reads
 use Rattle.build.proofs.site_turn.Reads as site-turn-reads
 use Rattle.build.proofs.rank_of.Reads as rank-of-reads
 
--- src/lib.rt:0:0
 rank-of-requires : tie.Need-rank-of-requires
 rank-of-requires c κs = search needs
 
--- src/lib.rt:689:9
 allele-number-requires : tie.Need-allele-number-requires
 allele-number-requires c κs = search needs
 
--- src/lib.rt:691:9
 append-text-requires : tie.Need-append-text-requires
 append-text-requires c κs = search needs
 
--- src/lib.rt:693:5
 site-turn-requires : tie.Need-site-turn-requires
 unfolding wrongAllele
 site-turn-requires c κs =
@@ -38,11 +34,9 @@ site-turn-requires c κs =
     let few = count-below _ _ _ _ _ (c .before .before .before .before .allele-number .ensures) (written-rules _ _ _ _ _ (c .before .before .append-text .ensures .0) z) in
     (written-room _ _ _ _ _ (c .before .before .append-text .ensures .0) z, omega (arith, few), omega arith)
 
--- src/lib.rt:684:1
 same-length : tie.Need-same-length
 same-length c = search needs
 
--- src/lib.rt:684:1
 returns : tie.Need-returns
 unfolding alleleRules alleleGiven afterAllele
 returns c =

@@ -6,13 +6,11 @@ use Rattle.build.proofs.answered.Tie as tie
 use Rattle.build.proofs.answered.Reads as reads
 use Rattle.build.proofs.answered.Lts as lts
 
--- src/lib.rt:149:9
 -- fill: eaadfe61
 returns : tie.Need-returns
 unfolding turned
 returns c = simp (eq-eqb _ _ (c .if1 .taken))
 
--- src/lib.rt:145:1
 -- fill: 286c95e6
 returns-2 : tie.Need-returns-2
 unfolding turned

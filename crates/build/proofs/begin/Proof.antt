@@ -6,8 +6,8 @@ use mir.Val.{ofZ}
 use borrow.Author.Tests.{eq-eqb, ne-eqb}
 use Rattle.words.proofs.Sign.{back}
 use Rattle.build.specs.Turns.{beginNumber, begun, afterBegin}
-use Rattle.front.proofs.Fronts.{front-room}
-use Rattle.rules.proofs.Numbers.{begin-room}
+use Rattle.build_front.proofs.Fronts.{front-room}
+use Rattle.build_rules.proofs.Numbers.{begin-room}
 use Rattle.build.proofs.Numbers.{turned-refused}
 use borrow.Author.Needs.{needs}
 use Rattle.build.proofs.begin.Statement.{statement}
@@ -15,49 +15,39 @@ use Rattle.build.proofs.begin.Tie as tie
 use Rattle.build.proofs.begin.Reads as reads
 use Rattle.build.proofs.begin.Lts as lts
 use Rattle.build.proofs.answered.Reads as answered-reads
-use Rattle.rules.proofs.begin_number.Reads as begin-number-reads
+use Rattle.build_rules.proofs.begin_number.Reads as begin-number-reads
 use Rattle.build.proofs.begun_state.Reads as begun-state-reads
-use Rattle.front.proofs.put_front.Reads as put-front-reads
+use Rattle.build_front.proofs.put_front.Reads as put-front-reads
 use Rattle.words.proofs.bits.Reads as bits-reads
 use Rattle.build.proofs.rank_of.Reads as rank-of-reads
 
--- src/lib.rt:258:9
 bits-requires : tie.Need-bits-requires
 bits-requires c κs = search needs
 
--- src/lib.rt:259:9
 bits-requires-2 : tie.Need-bits-requires-2
 bits-requires-2 c κs = search needs
 
--- src/lib.rt:260:9
 bits-requires-3 : tie.Need-bits-requires-3
 bits-requires-3 c κs = search needs
 
--- src/lib.rt:0:0
 rank-of-requires : tie.Need-rank-of-requires
 rank-of-requires c κs = search needs
 
--- src/lib.rt:262:9
 begin-number-requires : tie.Need-begin-number-requires
 begin-number-requires c κs = search needs
 
--- src/lib.rt:264:9
 put-front-requires : tie.Need-put-front-requires
 put-front-requires c κs = search needs
 
--- src/lib.rt:265:40
 begun-state-requires : tie.Need-begun-state-requires
 begun-state-requires c κs = search needs
 
--- src/lib.rt:265:9
 answered-requires : tie.Need-answered-requires
 answered-requires c κs = search needs
 
--- src/lib.rt:265:9
 same-length : tie.Need-same-length
 same-length c = search needs
 
--- src/lib.rt:265:9
 returns : tie.Need-returns
 unfolding beginNumber begun afterBegin
 returns c =
@@ -73,11 +63,9 @@ returns c =
       rw (← number, eq-eqb _ _ (c .before .before .before .before .before .before .if1 .taken)) (rw (← chrom, ← pos, ← rlen) (c .before .before .before .before .put-front .ensures ∙ front-room _ _ _ _ _ room)),
     )
 
--- src/lib.rt:267:5
 answered-requires-2 : tie.Need-answered-requires-2
 answered-requires-2 c κs = search needs
 
--- src/lib.rt:246:1
 returns-2 : tie.Need-returns-2
 unfolding beginNumber begun afterBegin
 returns-2 c =

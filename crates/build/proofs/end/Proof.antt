@@ -3,8 +3,8 @@ use mathlib.Core.Path.{_∙_, sym, ap}
 use lib.ListN.{length}
 use borrow.Author.Tests.{eq-eqb, ne-eqb, le-ltb}
 use Rattle.build.specs.Turns.{filledIn, endNumber, built, afterEnd}
-use Rattle.rules.specs.Rules.{wrongEnd}
-use Rattle.rules.proofs.Numbers.{end-room}
+use Rattle.build_rules.specs.Rules.{wrongEnd}
+use Rattle.build_rules.proofs.Numbers.{end-room}
 use Rattle.build.proofs.Numbers.{turned-refused}
 use borrow.Author.Needs.{needs}
 use Rattle.build.proofs.end.Statement.{statement}
@@ -12,36 +12,29 @@ use Rattle.build.proofs.end.Tie as tie
 use Rattle.build.proofs.end.Reads as reads
 use Rattle.build.proofs.end.Lts as lts
 use Rattle.build.proofs.answered.Reads as answered-reads
-use Rattle.rules.proofs.end_number.Reads as end-number-reads
-use Rattle.front.proofs.fill_in.Reads as fill-in-reads
+use Rattle.build_rules.proofs.end_number.Reads as end-number-reads
+use Rattle.build_front.proofs.fill_in.Reads as fill-in-reads
 use Rattle.build.proofs.moved.Reads as moved-reads
 use Rattle.build.proofs.rank_of.Reads as rank-of-reads
 
--- src/lib.rt:0:0
 rank-of-requires : tie.Need-rank-of-requires
 rank-of-requires c κs = search needs
 
--- src/lib.rt:338:9
 end-number-requires : tie.Need-end-number-requires
 end-number-requires c κs = search needs
 
--- src/lib.rt:340:9
 fill-in-requires : tie.Need-fill-in-requires
 fill-in-requires c κs = search needs
 
--- src/lib.rt:342:13
 moved-requires : tie.Need-moved-requires
 moved-requires c κs = search needs
 
--- src/lib.rt:350:9
 answered-requires : tie.Need-answered-requires
 answered-requires c κs = search needs
 
--- src/lib.rt:350:9
 same-length : tie.Need-same-length
 same-length c = search needs
 
--- src/lib.rt:350:9
 returns : tie.Need-returns
 unfolding filledIn endNumber built afterEnd
 returns c =
@@ -51,11 +44,9 @@ returns c =
       rw (← number, eq-eqb _ _ (c .before .before .before .before .before .before .if1 .taken)) (rw (le-ltb _ _ room) at (c .before .before .before .before .fill-in .ensures)),
     )
 
--- src/lib.rt:352:5
 answered-requires-2 : tie.Need-answered-requires-2
 answered-requires-2 c κs = search needs
 
--- src/lib.rt:333:1
 returns-2 : tie.Need-returns-2
 unfolding endNumber built afterEnd
 returns-2 c =

@@ -5,43 +5,37 @@ use native.Mathlib.Nat.{add-zero}
 use native.Mathlib.Omega.{arith}
 use mir.Syntax.{w32}
 use mir.Val.{ofZ}
-use Rattle.rules.specs.Rules.{wrongFilter}
+use Rattle.build_rules.specs.Rules.{wrongFilter}
 use Rattle.build.specs.Turns.{filterRules, filterGiven, afterFilter}
 use Rattle.build.specs.declared.Stage.the-variants.{Filtered}
-use Rattle.append.proofs.Writing.{written-room}
+use Rattle.build_append.proofs.Writing.{written-room}
 use Rattle.build.proofs.Answers.{site-answer, after-written}
 use borrow.Author.Needs.{needs}
 use Rattle.build.proofs.filter.Statement.{statement}
 use Rattle.build.proofs.filter.Tie as tie
 use Rattle.build.proofs.filter.Reads as reads
 use Rattle.build.proofs.filter.Lts as lts
-use Rattle.append.proofs.append_integers.Reads as append-integers-reads
-use Rattle.rules.proofs.filter_number.Reads as filter-number-reads
+use Rattle.build_append.proofs.append_integers.Reads as append-integers-reads
+use Rattle.build_rules.proofs.filter_number.Reads as filter-number-reads
 use Rattle.build.proofs.site_turn.Reads as site-turn-reads
 use Rattle.build.proofs.rank_of.Reads as rank-of-reads
 
--- src/lib.rt:0:0
 rank-of-requires : tie.Need-rank-of-requires
 rank-of-requires c κs = search needs
 
--- src/lib.rt:712:9
 filter-number-requires : tie.Need-filter-number-requires
 filter-number-requires c κs = search needs
 
--- src/lib.rt:714:9
 append-integers-requires : tie.Need-append-integers-requires
 append-integers-requires c κs = search needs
 
--- src/lib.rt:716:5
 site-turn-requires : tie.Need-site-turn-requires
 site-turn-requires c κs =
     λ z. (written-room _ _ _ _ _ (c .before .before .append-integers .ensures .0) z, omega arith, omega arith)
 
--- src/lib.rt:707:1
 same-length : tie.Need-same-length
 same-length c = search needs
 
--- src/lib.rt:707:1
 returns : tie.Need-returns
 unfolding filterRules filterGiven afterFilter
 returns c =

@@ -6,52 +6,44 @@ use Rattle.words.proofs.Sign.{back}
 use Rattle.record.specs.Shown.{floats}
 use Rattle.build.specs.Values.{givenNumber}
 use Rattle.build.specs.Turns.{formatGiven, afterFormat}
-use Rattle.append.proofs.Writing.{written-room, written-rules}
+use Rattle.build_append.proofs.Writing.{written-room, written-rules}
 use Rattle.build.proofs.Answers.{plain-number, format-below, pair-eq, format-answer, after-written}
 use borrow.Author.Needs.{needs}
 use Rattle.build.proofs.format_floats.Statement.{statement}
 use Rattle.build.proofs.format_floats.Tie as tie
 use Rattle.build.proofs.format_floats.Reads as reads
 use Rattle.build.proofs.format_floats.Lts as lts
-use Rattle.append.proofs.append_floats.Reads as append-floats-reads
-use Rattle.append.proofs.first_of.Reads as first-of-reads
+use Rattle.build_append.proofs.append_floats.Reads as append-floats-reads
+use Rattle.build_append.proofs.first_of.Reads as first-of-reads
 use Rattle.build.proofs.format_number.Reads as format-number-reads
 use Rattle.build.proofs.format_turn.Reads as format-turn-reads
-use Rattle.given.proofs.judge_floats.Reads as judge-floats-reads
+use Rattle.build_given.proofs.judge_floats.Reads as judge-floats-reads
 use Rattle.words.proofs.bits.Reads as bits-reads
 
--- src/lib.rt:810:9
 bits-requires : tie.Need-bits-requires
 bits-requires c κs = search needs
 
--- src/lib.rt:811:9
 format-number-requires : tie.Need-format-number-requires
 format-number-requires c κs = search needs
 
--- src/lib.rt:812:33
 judge-floats-requires : tie.Need-judge-floats-requires
 judge-floats-requires c κs = search needs
 
--- src/lib.rt:812:9
 first-of-requires : tie.Need-first-of-requires
 first-of-requires c κs = search needs
 
--- src/lib.rt:814:9
 append-floats-requires : tie.Need-append-floats-requires
 append-floats-requires c κs = search needs
 
--- src/lib.rt:815:5
 format-turn-requires : tie.Need-format-turn-requires
 format-turn-requires c κs =
     λ z.
     let sound = written-rules _ _ _ _ _ (c .before .before .append-floats .ensures .0) z in
     (written-room _ _ _ _ _ (c .before .before .append-floats .ensures .0) z, format-below _ _ _ _ _ _ _ _ (c .before .before .before .before .first-of .ensures) (c .before .before .before .before .before .before .format-number .ensures) sound)
 
--- src/lib.rt:806:1
 same-length : tie.Need-same-length
 same-length c = search needs
 
--- src/lib.rt:806:1
 returns : tie.Need-returns
 unfolding givenNumber formatGiven afterFormat
 returns c =

@@ -8,57 +8,48 @@ use Rattle.words.proofs.Sign.{back}
 use Rattle.record.specs.Shown.{integers}
 use Rattle.build.specs.Values.{givenNumber}
 use Rattle.build.specs.Turns.{formatGiven, afterFormat}
-use Rattle.append.proofs.Writing.{written-room, written-rules}
+use Rattle.build_append.proofs.Writing.{written-room, written-rules}
 use Rattle.build.proofs.Answers.{format-number, format-below, pair-eq, format-answer, after-written}
 use borrow.Author.Needs.{needs}
 use Rattle.build.proofs.format_integers.Statement.{statement}
 use Rattle.build.proofs.format_integers.Tie as tie
 use Rattle.build.proofs.format_integers.Reads as reads
 use Rattle.build.proofs.format_integers.Lts as lts
-use Rattle.append.proofs.append_integers.Reads as append-integers-reads
-use Rattle.append.proofs.first_of.Reads as first-of-reads
+use Rattle.build_append.proofs.append_integers.Reads as append-integers-reads
+use Rattle.build_append.proofs.first_of.Reads as first-of-reads
 use Rattle.build.proofs.format_number.Reads as format-number-reads
 use Rattle.build.proofs.format_turn.Reads as format-turn-reads
 use Rattle.build.proofs.most_for.Reads as most-for-reads
-use Rattle.given.proofs.judge_integers.Reads as judge-integers-reads
+use Rattle.build_given.proofs.judge_integers.Reads as judge-integers-reads
 use Rattle.words.proofs.bits.Reads as bits-reads
 
--- src/lib.rt:796:9
 bits-requires : tie.Need-bits-requires
 bits-requires c κs = search needs
 
--- src/lib.rt:797:9
 format-number-requires : tie.Need-format-number-requires
 format-number-requires c κs = search needs
 
--- src/lib.rt:798:9
 most-for-requires : tie.Need-most-for-requires
 most-for-requires c κs = search needs
 
--- src/lib.rt:799:33
 judge-integers-requires : tie.Need-judge-integers-requires
 judge-integers-requires c κs = search needs
 
--- src/lib.rt:799:9
 first-of-requires : tie.Need-first-of-requires
 first-of-requires c κs = search needs
 
--- src/lib.rt:801:9
 append-integers-requires : tie.Need-append-integers-requires
 append-integers-requires c κs = search needs
 
--- src/lib.rt:802:5
 format-turn-requires : tie.Need-format-turn-requires
 format-turn-requires c κs =
     λ z.
     let sound = written-rules _ _ _ _ _ (c .before .before .append-integers .ensures .0) z in
     (written-room _ _ _ _ _ (c .before .before .append-integers .ensures .0) z, format-below _ _ _ _ _ _ _ _ (c .before .before .before .before .first-of .ensures) (c .before .before .before .before .before .before .before .format-number .ensures) sound)
 
--- src/lib.rt:792:1
 same-length : tie.Need-same-length
 same-length c = search needs
 
--- src/lib.rt:792:1
 returns : tie.Need-returns
 unfolding givenNumber formatGiven afterFormat
 returns c =

@@ -10,33 +10,27 @@ use Rattle.build.proofs.format_number.Tie as tie
 use Rattle.build.proofs.format_number.Reads as reads
 use Rattle.build.proofs.format_number.Lts as lts
 use Rattle.build.proofs.rank_of.Reads as rank-of-reads
-use Rattle.rules.proofs.format_number.Reads as format-number-reads
+use Rattle.build_rules.proofs.format_number.Reads as format-number-reads
 
--- src/lib.rt:355:9
 rank-of-requires : tie.Need-rank-of-requires
 rank-of-requires c κs = search needs
 
--- src/lib.rt:358:13
 cast-n : tie.Need-cast-n
 cast-n c = search needs
 
--- src/lib.rt:363:9
 array-share-prefix-keys : tie.Need-array-share-prefix-keys
 array-share-prefix-keys c =
     let q : length (c .before .before .before .before .args .state .keys) ≡ 256 = rw length-map at (c .before .before .before .before .good .0 .1 .1 .1 .1 .1 .1 .1 .1 .1 .0 .1 .0 .1) in
     omega (arith, q)
 
--- src/lib.rt:363:9
 slice-aggregate-format-number : tie.Need-slice-aggregate-format-number
 slice-aggregate-format-number c =
     let q : length (c .before .before .before .before .before .args .state .keys) ≡ 256 = rw length-map at (c .before .before .before .before .before .good .0 .1 .1 .1 .1 .1 .1 .1 .1 .1 .0 .1 .0 .1) in
     sym (length-take-le _ _ (omega (arith, q)))
 
--- src/lib.rt:359:5
 format-number-requires : tie.Need-format-number-requires
 format-number-requires c κs = search needs
 
--- src/lib.rt:351:1
 returns : tie.Need-returns
 unfolding formatFront
 returns c = rw (← c .before .before .before .before .before .rank-of .ensures) (c .format-number .ensures)

@@ -6,52 +6,44 @@ use Rattle.words.proofs.Sign.{back}
 use Rattle.record.specs.Shown.{text}
 use Rattle.build.specs.Values.{givenNumber}
 use Rattle.build.specs.Turns.{formatGiven, afterFormat}
-use Rattle.append.proofs.Writing.{written-room, written-rules}
+use Rattle.build_append.proofs.Writing.{written-room, written-rules}
 use Rattle.build.proofs.Answers.{plain-number, format-below, pair-eq, format-answer, after-written}
 use borrow.Author.Needs.{needs}
 use Rattle.build.proofs.format_text.Statement.{statement}
 use Rattle.build.proofs.format_text.Tie as tie
 use Rattle.build.proofs.format_text.Reads as reads
 use Rattle.build.proofs.format_text.Lts as lts
-use Rattle.append.proofs.append_text.Reads as append-text-reads
-use Rattle.append.proofs.first_of.Reads as first-of-reads
+use Rattle.build_append.proofs.append_text.Reads as append-text-reads
+use Rattle.build_append.proofs.first_of.Reads as first-of-reads
 use Rattle.build.proofs.format_number.Reads as format-number-reads
 use Rattle.build.proofs.format_turn.Reads as format-turn-reads
-use Rattle.given.proofs.judge_text.Reads as judge-text-reads
+use Rattle.build_given.proofs.judge_text.Reads as judge-text-reads
 use Rattle.words.proofs.bits.Reads as bits-reads
 
--- src/lib.rt:823:9
 bits-requires : tie.Need-bits-requires
 bits-requires c κs = search needs
 
--- src/lib.rt:824:9
 format-number-requires : tie.Need-format-number-requires
 format-number-requires c κs = search needs
 
--- src/lib.rt:825:33
 judge-text-requires : tie.Need-judge-text-requires
 judge-text-requires c κs = search needs
 
--- src/lib.rt:825:9
 first-of-requires : tie.Need-first-of-requires
 first-of-requires c κs = search needs
 
--- src/lib.rt:827:9
 append-text-requires : tie.Need-append-text-requires
 append-text-requires c κs = search needs
 
--- src/lib.rt:828:5
 format-turn-requires : tie.Need-format-turn-requires
 format-turn-requires c κs =
     λ z.
     let sound = written-rules _ _ _ _ _ (c .before .before .append-text .ensures .0) z in
     (written-room _ _ _ _ _ (c .before .before .append-text .ensures .0) z, format-below _ _ _ _ _ _ _ _ (c .before .before .before .before .first-of .ensures) (c .before .before .before .before .before .before .format-number .ensures) sound)
 
--- src/lib.rt:819:1
 same-length : tie.Need-same-length
 same-length c = search needs
 
--- src/lib.rt:819:1
 returns : tie.Need-returns
 unfolding givenNumber formatGiven afterFormat
 returns c =

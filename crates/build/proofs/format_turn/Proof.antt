@@ -9,25 +9,20 @@ use Rattle.build.proofs.format_turn.Lts as lts
 use Rattle.build.proofs.answered.Reads as answered-reads
 use Rattle.build.proofs.with_format.Reads as with-format-reads
 
--- src/lib.rt:636:40
 with-format-requires : tie.Need-with-format-requires
 with-format-requires c κs =
     c .before .pre (c .if1 .taken)
 
--- src/lib.rt:636:9
 answered-requires : tie.Need-answered-requires
 answered-requires c κs = search needs
 
--- src/lib.rt:636:9
 returns : tie.Need-returns
 returns c =
     c .answered .ensures ∙ rw (c .before .with-format .ensures)
 
--- src/lib.rt:638:5
 answered-requires-2 : tie.Need-answered-requires-2
 answered-requires-2 c κs = search needs
 
--- src/lib.rt:630:1
 returns-2 : tie.Need-returns-2
 returns-2 c =
     c .answered2 .ensures ∙ turned-refused _ _ _ _ (c .before .if1 .left)

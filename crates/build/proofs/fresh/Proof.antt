@@ -6,7 +6,6 @@ use Rattle.build.proofs.fresh.Tie as tie
 use Rattle.build.proofs.fresh.Reads as reads
 use Rattle.build.proofs.fresh.Lts as lts
 
--- src/lib.rt:63:1
 returns : tie.Need-returns
 unfolding freshState
 returns c =

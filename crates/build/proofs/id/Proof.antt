@@ -2,43 +2,37 @@
 use mathlib.Core.Path.{_∙_, refl, ap}
 use native.Mathlib.Nat.{add-zero}
 use native.Mathlib.Omega.{arith}
-use Rattle.rules.specs.Rules.{wrongId}
+use Rattle.build_rules.specs.Rules.{wrongId}
 use Rattle.build.specs.Turns.{idNumber, idGiven, afterId}
 use Rattle.build.specs.declared.Stage.the-variants.{Named}
-use Rattle.append.proofs.Writing.{written-room}
+use Rattle.build_append.proofs.Writing.{written-room}
 use Rattle.build.proofs.Answers.{site-answer, after-written}
 use borrow.Author.Needs.{needs}
 use Rattle.build.proofs.id.Statement.{statement}
 use Rattle.build.proofs.id.Tie as tie
 use Rattle.build.proofs.id.Reads as reads
 use Rattle.build.proofs.id.Lts as lts
-use Rattle.append.proofs.append_text.Reads as append-text-reads
-use Rattle.rules.proofs.id_number.Reads as id-number-reads
+use Rattle.build_append.proofs.append_text.Reads as append-text-reads
+use Rattle.build_rules.proofs.id_number.Reads as id-number-reads
 use Rattle.build.proofs.site_turn.Reads as site-turn-reads
 use Rattle.build.proofs.rank_of.Reads as rank-of-reads
 
--- src/lib.rt:0:0
 rank-of-requires : tie.Need-rank-of-requires
 rank-of-requires c κs = search needs
 
--- src/lib.rt:657:9
 id-number-requires : tie.Need-id-number-requires
 id-number-requires c κs = search needs
 
--- src/lib.rt:659:9
 append-text-requires : tie.Need-append-text-requires
 append-text-requires c κs = search needs
 
--- src/lib.rt:661:5
 site-turn-requires : tie.Need-site-turn-requires
 site-turn-requires c κs =
     λ z. (written-room _ _ _ _ _ (c .before .before .append-text .ensures .0) z, omega arith, omega arith)
 
--- src/lib.rt:652:1
 same-length : tie.Need-same-length
 same-length c = search needs
 
--- src/lib.rt:652:1
 returns : tie.Need-returns
 unfolding idNumber idGiven afterId
 returns c =

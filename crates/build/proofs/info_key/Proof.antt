@@ -6,17 +6,14 @@ use Rattle.build.proofs.info_key.Tie as tie
 use Rattle.build.proofs.info_key.Reads as reads
 use Rattle.build.proofs.info_key.Lts as lts
 use Rattle.build.proofs.rank_of.Reads as rank-of-reads
-use Rattle.rules.proofs.info_number.Reads as info-number-reads
+use Rattle.build_rules.proofs.info_number.Reads as info-number-reads
 
--- src/lib.rt:299:24
 rank-of-requires : tie.Need-rank-of-requires
 rank-of-requires c κs = search needs
 
--- src/lib.rt:299:5
 info-number-requires : tie.Need-info-number-requires
 info-number-requires c κs = search needs
 
--- src/lib.rt:296:1
 returns : tie.Need-returns
 unfolding infoKey
 returns c = rw (← c .before .rank-of .ensures) (c .info-number .ensures)

@@ -10,22 +10,18 @@ use Rattle.build.proofs.most_for.Tie as tie
 use Rattle.build.proofs.most_for.Reads as reads
 use Rattle.build.proofs.most_for.Lts as lts
 
--- src/lib.rt:786:16
 mul-result : tie.Need-mul-result
 mul-result c = search needs
 
--- src/lib.rt:786:16
 add-result : tie.Need-add-result
 add-result c = search needs
 
--- src/lib.rt:786:9
 returns : tie.Need-returns
 unfolding roleOf codeMost highest
 returns c =
     let q : c .before .args .alleles < 1073741823 = omega arith in
     rw (eq-eqb _ _ (c .if1 .taken), lt-ltb _ _ q)
 
--- src/lib.rt:782:1
 returns-2 : tie.Need-returns-2
 unfolding roleOf
 returns-2 c =

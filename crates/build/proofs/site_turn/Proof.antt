@@ -10,44 +10,35 @@ use Rattle.build.proofs.site_turn.Lts as lts
 use Rattle.build.proofs.answered.Reads as answered-reads
 use Rattle.build.proofs.moved.Reads as moved-reads
 
--- src/lib.rt:600:31
 cast-stop : tie.Need-cast-stop
 cast-stop c =
     omega (arith, c .before .before .pre (c .before .if1 .taken) .0)
 
--- src/lib.rt:600:20
 add-stop : tie.Need-add-stop
 add-stop c =
     omega (arith, c .before .before .before .pre (c .before .before .if1 .taken) .0)
 
--- src/lib.rt:601:17
 add-a : tie.Need-add-a
 add-a c =
     omega (arith, c .before .before .before .before .pre (c .before .before .before .if1 .taken) .1)
 
--- src/lib.rt:602:17
 add-i : tie.Need-add-i
 add-i c =
     omega (arith, c .before .before .before .before .before .pre (c .before .before .before .before .if1 .taken) .2)
 
--- src/lib.rt:603:40
 moved-requires : tie.Need-moved-requires
 moved-requires c κs = search needs
 
--- src/lib.rt:603:9
 answered-requires : tie.Need-answered-requires
 answered-requires c κs = search needs
 
--- src/lib.rt:603:9
 returns : tie.Need-returns
 returns c =
     c .answered .ensures ∙ rw (c .before .moved .ensures)
 
--- src/lib.rt:605:5
 answered-requires-2 : tie.Need-answered-requires-2
 answered-requires-2 c κs = search needs
 
--- src/lib.rt:594:1
 returns-2 : tie.Need-returns-2
 returns-2 c =
     c .answered2 .ensures ∙ turned-refused _ _ _ _ (c .before .if1 .left)

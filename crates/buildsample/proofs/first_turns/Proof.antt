@@ -11,81 +11,62 @@ use Rattle.build.proofs.fresh.Reads as fresh-reads
 use Rattle.build.proofs.id.Reads as id-reads
 use Rattle.buildsample.proofs.is_taken.Reads as is-taken-reads
 
--- src/main.rt:18:9
 fresh-requires : tie.Need-fresh-requires
 fresh-requires c κs = search needs
 
--- src/main.rt:19:9
 begin-requires : tie.Need-begin-requires
 begin-requires c κs = search needs
 
--- src/main.rt:20:9
 is-taken-requires : tie.Need-is-taken-requires
 is-taken-requires c κs = search needs
 
--- src/main.rt:21:9
 same-length : tie.Need-same-length
 same-length c = search needs
 
--- src/main.rt:21:9
 returns : tie.Need-returns
 returns c = search needs
 
--- src/main.rt:24:39
 slice-aggregate-id : tie.Need-slice-aggregate-id
 slice-aggregate-id c = search needs
 
--- src/main.rt:24:9
 id-requires : tie.Need-id-requires
 id-requires c κs = search needs
 
--- src/main.rt:25:9
 is-taken-requires-2 : tie.Need-is-taken-requires-2
 is-taken-requires-2 c κs = search needs
 
--- src/main.rt:26:9
 same-length-2 : tie.Need-same-length-2
 same-length-2 c = search needs
 
--- src/main.rt:26:9
 returns-2 : tie.Need-returns-2
 returns-2 c = search needs
 
--- src/main.rt:29:41
 slice-aggregate-allele : tie.Need-slice-aggregate-allele
 slice-aggregate-allele c = search needs
 
--- src/main.rt:29:9
 allele-requires : tie.Need-allele-requires
 allele-requires c κs = search needs
 
--- src/main.rt:30:9
 is-taken-requires-3 : tie.Need-is-taken-requires-3
 is-taken-requires-3 c κs = search needs
 
--- src/main.rt:31:9
 same-length-3 : tie.Need-same-length-3
 same-length-3 c =
     omega (arith, c .before .before .before .before .allele .kept, c .before .before .before .before .before .before .before .before .before .before .before .before .id .kept, c .before .before .before .before .before .before .before .before .before .before .before .before .before .before .before .before .before .before .before .before .begin .kept)
 
--- src/main.rt:31:9
 returns-3 : tie.Need-returns-3
 returns-3 c = search needs
 
--- src/main.rt:34:31
 slice-aggregate-allele-2 : tie.Need-slice-aggregate-allele-2
 slice-aggregate-allele-2 c = search needs
 
--- src/main.rt:34:5
 allele-requires-2 : tie.Need-allele-requires-2
 allele-requires-2 c κs = search needs
 
--- src/main.rt:17:1
 same-length-4 : tie.Need-same-length-4
 same-length-4 c =
     omega (arith, c .before .before .allele2 .kept, c .before .before .before .before .before .before .before .before .before .before .allele .kept, c .before .before .before .before .before .before .before .before .before .before .before .before .before .before .before .before .before .before .id .kept, c .before .before .before .before .before .before .before .before .before .before .before .before .before .before .before .before .before .before .before .before .before .before .before .before .before .before .begin .kept)
 
--- src/main.rt:17:1
 returns-4 : tie.Need-returns-4
 returns-4 c = search needs
 

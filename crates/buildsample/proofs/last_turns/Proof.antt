@@ -11,77 +11,59 @@ use Rattle.build.proofs.format_integers.Reads as format-integers-reads
 use Rattle.build.proofs.info_integers.Reads as info-integers-reads
 use Rattle.buildsample.proofs.is_taken.Reads as is-taken-reads
 
--- src/main.rt:40:46
 slice-aggregate-filter : tie.Need-slice-aggregate-filter
 slice-aggregate-filter c = search needs
 
--- src/main.rt:40:9
 filter-requires : tie.Need-filter-requires
 filter-requires c κs = search needs
 
--- src/main.rt:41:9
 is-taken-requires : tie.Need-is-taken-requires
 is-taken-requires c κs = search needs
 
--- src/main.rt:42:9
 same-length : tie.Need-same-length
 same-length c = search needs
 
--- src/main.rt:42:9
 returns : tie.Need-returns
 returns c = search needs
 
--- src/main.rt:46:52
 slice-aggregate-info-integers : tie.Need-slice-aggregate-info-integers
 slice-aggregate-info-integers c = search needs
 
--- src/main.rt:46:9
 info-integers-requires : tie.Need-info-integers-requires
 info-integers-requires c κs = search needs
 
--- src/main.rt:47:9
 is-taken-requires-2 : tie.Need-is-taken-requires-2
 is-taken-requires-2 c κs = search needs
 
--- src/main.rt:48:9
 same-length-2 : tie.Need-same-length-2
 same-length-2 c = search needs
 
--- src/main.rt:48:9
 returns-2 : tie.Need-returns-2
 returns-2 c = search needs
 
--- src/main.rt:52:59
 slice-aggregate-format-integers : tie.Need-slice-aggregate-format-integers
 slice-aggregate-format-integers c = search needs
 
--- src/main.rt:52:9
 format-integers-requires : tie.Need-format-integers-requires
 format-integers-requires c κs = search needs
 
--- src/main.rt:53:9
 is-taken-requires-3 : tie.Need-is-taken-requires-3
 is-taken-requires-3 c κs = search needs
 
--- src/main.rt:54:9
 same-length-3 : tie.Need-same-length-3
 same-length-3 c =
     omega (arith, c .before .before .before .before .format-integers .kept, c .before .before .before .before .before .before .before .before .before .before .before .before .info-integers .kept, c .before .before .before .before .before .before .before .before .before .before .before .before .before .before .before .before .before .before .before .before .filter .kept)
 
--- src/main.rt:54:9
 returns-3 : tie.Need-returns-3
 returns-3 c = search needs
 
--- src/main.rt:57:5
 end-requires : tie.Need-end-requires
 end-requires c κs = search needs
 
--- src/main.rt:38:1
 same-length-4 : tie.Need-same-length-4
 same-length-4 c =
     omega (arith, c .before .before .end .kept, c .before .before .before .before .before .before .before .before .before .format-integers .kept, c .before .before .before .before .before .before .before .before .before .before .before .before .before .before .before .before .before .info-integers .kept, c .before .before .before .before .before .before .before .before .before .before .before .before .before .before .before .before .before .before .before .before .before .before .before .before .before .filter .kept)
 
--- src/main.rt:38:1
 returns-4 : tie.Need-returns-4
 returns-4 c = search needs
 

@@ -12,64 +12,49 @@ use Rattle.buildsample.proofs.is_taken.Reads as is-taken-reads
 use Rattle.buildsample.proofs.print_record.Reads as print-record-reads
 use Rattle.io.proofs.write_all.Reads as write-all-reads
 
--- src/main.rt:102:33
 slice-aggregate-all-turns : tie.Need-slice-aggregate-all-turns
 slice-aggregate-all-turns c = search needs
 
--- src/main.rt:102:9
 all-turns-requires : tie.Need-all-turns-requires
 all-turns-requires c κs = search needs
 
--- src/main.rt:103:13
 cast-n : tie.Need-cast-n
 cast-n c = search needs
 
--- src/main.rt:104:9
 is-taken-requires : tie.Need-is-taken-requires
 is-taken-requires c κs = search needs
 
--- src/main.rt:105:26
 slice-aggregate-write-all : tie.Need-slice-aggregate-write-all
 slice-aggregate-write-all c = search needs
 
--- src/main.rt:105:9
 write-all-requires : tie.Need-write-all-requires
 write-all-requires c κs = search needs
 
--- src/main.rt:106:9
 returns : tie.Need-returns
 returns c = search needs
 
--- src/main.rt:109:9
 returns-2 : tie.Need-returns-2
 returns-2 c = search needs
 
--- src/main.rt:111:18
 array-share-prefix-buf : tie.Need-array-share-prefix-buf
 array-share-prefix-buf c = search needs
 
--- src/main.rt:111:18
 slice-aggregate-print-record : tie.Need-slice-aggregate-print-record
 slice-aggregate-print-record c =
     sym (length-take-le _ _ (omega (arith, c .before .if2 .left, c .before .before .before .before .before .before .all-turns .kept)))
 
--- src/main.rt:111:36
 slice-aggregate-print-record-2 : tie.Need-slice-aggregate-print-record-2
 slice-aggregate-print-record-2 c = search needs
 
--- src/main.rt:111:47
 slice-aggregate-print-record-3 : tie.Need-slice-aggregate-print-record-3
 slice-aggregate-print-record-3 c = search needs
 
--- src/main.rt:111:59
 slice-aggregate-print-record-4 : tie.Need-slice-aggregate-print-record-4
 slice-aggregate-print-record-4 c = search needs
 
--- src/main.rt:111:5
 print-record-requires : tie.Need-print-record-requires
 print-record-requires c κs = search needs
 
--- src/main.rt:91:1
 returns-3 : tie.Need-returns-3
 returns-3 c = search needs
 

@@ -10,55 +10,43 @@ use Rattle.buildsample.proofs.print_answer.Lts as lts
 use Rattle.frames.proofs.answer_line.Reads as answer-line-reads
 use Rattle.io.proofs.write_all.Reads as write-all-reads
 
--- src/main.rt:72:9
 answer-line-requires : tie.Need-answer-line-requires
 answer-line-requires c κs = search needs
 
--- src/main.rt:73:30
 enum-known-a : tie.Need-enum-known-a
 enum-known-a c = search needs
 
--- src/main.rt:74:9
 enum-told : tie.Need-enum-told
 enum-told c = search needs
 
--- src/main.rt:74:9
 same-length : tie.Need-same-length
 same-length c = search needs
 
--- src/main.rt:74:9
 same-length-2 : tie.Need-same-length-2
 same-length-2 c = search needs
 
--- src/main.rt:74:9
 returns : tie.Need-returns
 returns c = search needs
 
--- src/main.rt:76:22
 slice-reshare-prefix-write-all : tie.Need-slice-reshare-prefix-write-all
 slice-reshare-prefix-write-all c =
     let i = rw (c .before .a .given .1) at (c .before .before .before .before .before .before .before .answer-line .ensures .1 .0) in
     omega (arith, i, c .before .before .before .before .before .before .before .answer-line .kept)
 
--- src/main.rt:76:22
 slice-aggregate-write-all : tie.Need-slice-aggregate-write-all
 slice-aggregate-write-all c =
     let i = rw (c .before .before .a .given .1) at (c .before .before .before .before .before .before .before .before .answer-line .ensures .1 .0) in
     sym (length-take-le _ _ (omega (arith, i, c .before .before .before .before .before .before .before .before .answer-line .kept)))
 
--- src/main.rt:76:5
 write-all-requires : tie.Need-write-all-requires
 write-all-requires c κs = search needs
 
--- src/main.rt:71:1
 same-length-3 : tie.Need-same-length-3
 same-length-3 c = search needs
 
--- src/main.rt:71:1
 same-length-4 : tie.Need-same-length-4
 same-length-4 c = search needs
 
--- src/main.rt:71:1
 returns-2 : tie.Need-returns-2
 returns-2 c = search needs
 

@@ -11,69 +11,53 @@ use Rattle.buildsample.proofs.print_answer.Reads as print-answer-reads
 use Rattle.capitals.proofs.put_capitals.Reads as put-capitals-reads
 use Rattle.io.proofs.write_all.Reads as write-all-reads
 
--- src/main.rt:83:9
 returns : tie.Need-returns
 returns c = search needs
 
--- src/main.rt:85:5
 put-capitals-requires : tie.Need-put-capitals-requires
 put-capitals-requires c κs = search needs
 
--- src/main.rt:86:30
 mul-write-all : tie.Need-mul-write-all
 mul-write-all c = search needs
 
--- src/main.rt:86:22
 slice-reshare-prefix-write-all : tie.Need-slice-reshare-prefix-write-all
 slice-reshare-prefix-write-all c = search needs
 
--- src/main.rt:86:22
 slice-aggregate-write-all : tie.Need-slice-aggregate-write-all
 slice-aggregate-write-all c =
     sym (length-take-le _ _ (omega (arith, c .before .before .before .put-capitals .kept, c .before .before .before .before .before .if1 .left)))
 
--- src/main.rt:86:5
 write-all-requires : tie.Need-write-all-requires
 write-all-requires c κs = search needs
 
--- src/main.rt:87:22
 slice-aggregate-write-all-2 : tie.Need-slice-aggregate-write-all-2
 slice-aggregate-write-all-2 c = search needs
 
--- src/main.rt:87:5
 write-all-requires-2 : tie.Need-write-all-requires-2
 write-all-requires-2 c κs = search needs
 
--- src/main.rt:88:26
 mul-print-answer : tie.Need-mul-print-answer
 mul-print-answer c = search needs
 
--- src/main.rt:88:18
 slice-reshare-prefix-print-answer : tie.Need-slice-reshare-prefix-print-answer
 slice-reshare-prefix-print-answer c = search needs
 
--- src/main.rt:88:18
 slice-aggregate-print-answer : tie.Need-slice-aggregate-print-answer
 slice-aggregate-print-answer c =
     sym (length-take-le _ _ (omega (arith, c .before .before .before .before .before .before .before .put-capitals .kept, c .before .before .before .before .before .before .before .before .before .if1 .left)))
 
--- src/main.rt:88:5
 print-answer-requires : tie.Need-print-answer-requires
 print-answer-requires c κs = search needs
 
--- src/main.rt:80:1
 same-length : tie.Need-same-length
 same-length c = search needs
 
--- src/main.rt:80:1
 same-length-2 : tie.Need-same-length-2
 same-length-2 c = search needs
 
--- src/main.rt:80:1
 same-length-3 : tie.Need-same-length-3
 same-length-3 c = search needs
 
--- src/main.rt:80:1
 returns-2 : tie.Need-returns-2
 returns-2 c = search needs
 

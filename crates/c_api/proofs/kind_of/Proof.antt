@@ -6,26 +6,22 @@ use Rattle.c_api.proofs.kind_of.Tie as tie
 use Rattle.c_api.proofs.kind_of.Reads as reads
 use Rattle.c_api.proofs.kind_of.Lts as lts
 
--- src/lib.rt:28:9
 -- fill: eaadfe61
 returns : tie.Need-returns
 unfolding kindOf
 returns c = simp (eq-eqb _ _ (c .if1 .taken))
 
--- src/lib.rt:31:9
 -- fill: 31729425
 returns-2 : tie.Need-returns-2
 unfolding kindOf
 returns-2 c = simp (ne-eqb _ _ (c .before .if1 .left), eq-eqb _ _ (c .if2 .taken))
 
--- src/lib.rt:34:9
 -- fill: 0c7abf29
 returns-3 : tie.Need-returns-3
 unfolding kindOf
 returns-3 c =
     simp (ne-eqb _ _ (c .before .before .if1 .left), ne-eqb _ _ (c .before .if2 .left), eq-eqb _ _ (c .if3 .taken))
 
--- src/lib.rt:37:9
 -- fill: e91fceac
 returns-4 : tie.Need-returns-4
 unfolding kindOf
@@ -37,7 +33,6 @@ returns-4 c =
       eq-eqb _ _ (c .if4 .taken),
     )
 
--- src/lib.rt:24:1
 -- fill: c8ba6914
 returns-5 : tie.Need-returns-5
 unfolding kindOf

@@ -6,13 +6,11 @@ use Rattle.c_api.proofs.number_of.Tie as tie
 use Rattle.c_api.proofs.number_of.Reads as reads
 use Rattle.c_api.proofs.number_of.Lts as lts
 
--- src/lib.rt:47:9
 -- fill: c6b21389
 returns : tie.Need-returns
 unfolding numberOf
 returns c = simp (lt-ltb _ _ (c .if1 .taken))
 
--- src/lib.rt:43:1
 -- fill: 5676c1b0
 returns-2 : tie.Need-returns-2
 unfolding numberOf

@@ -3,37 +3,31 @@ use mathlib.Core.Path.{_∙_, ap}
 use lib.ListN.{length}
 use Rattle.build.specs.declared.Builder.{Builder}
 use Rattle.build.specs.Turns.{alleleGiven, afterAllele}
-use Rattle.kept.specs.Kept.{turnAnswer, turnNumbers}
+use Rattle.c_state.specs.Kept.{turnAnswer, turnNumbers}
 use borrow.Author.Needs.{needs}
 use Rattle.c_api.proofs.sikalumdo_allele.Statement.{statement}
 use Rattle.c_api.proofs.sikalumdo_allele.Tie as tie
 use Rattle.c_api.proofs.sikalumdo_allele.Reads as reads
 use Rattle.c_api.proofs.sikalumdo_allele.Lts as lts
 use Rattle.build.proofs.allele.Reads as allele-reads
-use Rattle.kept.proofs.keep.Reads as keep-reads
-use Rattle.kept.proofs.state_of.Reads as state-of-reads
+use Rattle.c_state.proofs.keep.Reads as keep-reads
+use Rattle.c_state.proofs.state_of.Reads as state-of-reads
 
--- src/lib.rt:257:27
 state-of-requires : tie.Need-state-of-requires
 state-of-requires c κs = search needs
 
--- src/lib.rt:257:9
 allele-requires : tie.Need-allele-requires
 allele-requires c κs = search needs
 
--- src/lib.rt:258:5
 keep-requires : tie.Need-keep-requires
 keep-requires c κs = search needs
 
--- src/lib.rt:251:1
 same-length : tie.Need-same-length
 same-length c = search needs
 
--- src/lib.rt:251:1
 same-length-2 : tie.Need-same-length-2
 same-length-2 c = search needs
 
--- src/lib.rt:251:1
 returns : tie.Need-returns
 returns c =
     let a = c .before .before .before .before .before .before .before .before .before .before .before .before .before .args in

@@ -7,37 +7,31 @@ use Rattle.words.proofs.Sign.{back}
 use Rattle.c_api.specs.Given.{factsOf}
 use Rattle.build.specs.declared.Builder.{Builder}
 use Rattle.build.specs.Turns.{begun, afterBegin}
-use Rattle.kept.specs.Kept.{turnAnswer, turnNumbers}
+use Rattle.c_state.specs.Kept.{turnAnswer, turnNumbers}
 use borrow.Author.Needs.{needs}
 use Rattle.c_api.proofs.sikalumdo_begin.Statement.{statement}
 use Rattle.c_api.proofs.sikalumdo_begin.Tie as tie
 use Rattle.c_api.proofs.sikalumdo_begin.Reads as reads
 use Rattle.c_api.proofs.sikalumdo_begin.Lts as lts
 use Rattle.build.proofs.begin.Reads as begin-reads
-use Rattle.kept.proofs.keep.Reads as keep-reads
-use Rattle.kept.proofs.state_of.Reads as state-of-reads
+use Rattle.c_state.proofs.keep.Reads as keep-reads
+use Rattle.c_state.proofs.state_of.Reads as state-of-reads
 
--- src/lib.rt:235:26
 state-of-requires : tie.Need-state-of-requires
 state-of-requires c κs = search needs
 
--- src/lib.rt:235:9
 begin-requires : tie.Need-begin-requires
 begin-requires c κs = search needs
 
--- src/lib.rt:236:5
 keep-requires : tie.Need-keep-requires
 keep-requires c κs = search needs
 
--- src/lib.rt:212:1
 same-length : tie.Need-same-length
 same-length c = search needs
 
--- src/lib.rt:212:1
 same-length-2 : tie.Need-same-length-2
 same-length-2 c = search needs
 
--- src/lib.rt:212:1
 returns : tie.Need-returns
 returns c =
     let a = c .before .before .before .before .before .before .before .before .before .before .before .before .args in

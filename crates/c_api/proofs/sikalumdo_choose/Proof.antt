@@ -1,27 +1,23 @@
 -- `c_api::sikalumdo_choose` meets its contract.
 use mathlib.Core.Path.{_∙_, ap}
-use Rattle.told.specs.Told.{choosingAnswer}
+use Rattle.c_answers.specs.Told.{choosingAnswer}
 use borrow.Author.Needs.{needs}
 use Rattle.c_api.proofs.sikalumdo_choose.Statement.{statement}
 use Rattle.c_api.proofs.sikalumdo_choose.Tie as tie
 use Rattle.c_api.proofs.sikalumdo_choose.Reads as reads
 use Rattle.c_api.proofs.sikalumdo_choose.Lts as lts
 use Rattle.choose.proofs.choose.Reads as choose-reads
-use Rattle.told.proofs.tell_choosing.Reads as tell-choosing-reads
+use Rattle.c_answers.proofs.tell_choosing.Reads as tell-choosing-reads
 
--- src/lib.rt:170:25
 choose-requires : tie.Need-choose-requires
 choose-requires c κs = search needs
 
--- src/lib.rt:170:5
 tell-choosing-requires : tie.Need-tell-choosing-requires
 tell-choosing-requires c κs = search needs
 
--- src/lib.rt:151:1
 same-length : tie.Need-same-length
 same-length c = search needs
 
--- src/lib.rt:151:1
 returns : tie.Need-returns
 returns c =
     (c .tell-choosing .ensures ∙ ap choosingAnswer (c .before .before .before .choose .ensures .0), c .before .before .before .choose .ensures .1 .1)

@@ -3,37 +3,31 @@ use mathlib.Core.Path.{_∙_, ap}
 use lib.ListN.{length}
 use Rattle.build.specs.declared.Builder.{Builder}
 use Rattle.build.specs.Turns.{built, afterEnd}
-use Rattle.kept.specs.Kept.{turnAnswer, turnNumbers}
+use Rattle.c_state.specs.Kept.{turnAnswer, turnNumbers}
 use borrow.Author.Needs.{needs}
 use Rattle.c_api.proofs.sikalumdo_end.Statement.{statement}
 use Rattle.c_api.proofs.sikalumdo_end.Tie as tie
 use Rattle.c_api.proofs.sikalumdo_end.Reads as reads
 use Rattle.c_api.proofs.sikalumdo_end.Lts as lts
 use Rattle.build.proofs.end.Reads as end-reads
-use Rattle.kept.proofs.keep.Reads as keep-reads
-use Rattle.kept.proofs.state_of.Reads as state-of-reads
+use Rattle.c_state.proofs.keep.Reads as keep-reads
+use Rattle.c_state.proofs.state_of.Reads as state-of-reads
 
--- src/lib.rt:378:24
 state-of-requires : tie.Need-state-of-requires
 state-of-requires c κs = search needs
 
--- src/lib.rt:378:9
 end-requires : tie.Need-end-requires
 end-requires c κs = search needs
 
--- src/lib.rt:379:5
 keep-requires : tie.Need-keep-requires
 keep-requires c κs = search needs
 
--- src/lib.rt:372:1
 same-length : tie.Need-same-length
 same-length c = search needs
 
--- src/lib.rt:372:1
 same-length-2 : tie.Need-same-length-2
 same-length-2 c = search needs
 
--- src/lib.rt:372:1
 returns : tie.Need-returns
 returns c =
     let a = c .before .before .before .before .before .before .before .before .before .before .before .before .args in

@@ -3,7 +3,7 @@ use mathlib.Core.Path.{_∙_, ap}
 use Prim.Native.Nat.{ℕ}
 use Rattle.fetch.specs.Fetch.{found}
 use Rattle.fetch.specs.declared.Kind.{Kind}
-use Rattle.told.specs.Told.{foundAnswer, foundNumbers}
+use Rattle.c_answers.specs.Told.{foundAnswer, foundNumbers}
 use Rattle.c_api.specs.Given.{factsOf, kindOf}
 use borrow.Author.Needs.{needs}
 use Rattle.c_api.proofs.sikalumdo_fetch.Statement.{statement}
@@ -13,29 +13,23 @@ use Rattle.c_api.proofs.sikalumdo_fetch.Lts as lts
 use Rattle.c_api.proofs.kind_of.Reads as kind-of-reads
 use Rattle.c_api.proofs.number_of.Reads as number-of-reads
 use Rattle.fetch.proofs.find.Reads as find-reads
-use Rattle.told.proofs.tell_found.Reads as tell-found-reads
+use Rattle.c_answers.proofs.tell_found.Reads as tell-found-reads
 
--- src/lib.rt:95:35
 kind-of-requires : tie.Need-kind-of-requires
 kind-of-requires c κs = search needs
 
--- src/lib.rt:95:50
 number-of-requires : tie.Need-number-of-requires
 number-of-requires c κs = search needs
 
--- src/lib.rt:95:9
 find-requires : tie.Need-find-requires
 find-requires c κs = search needs
 
--- src/lib.rt:96:5
 tell-found-requires : tie.Need-tell-found-requires
 tell-found-requires c κs = search needs
 
--- src/lib.rt:75:1
 same-length : tie.Need-same-length
 same-length c = search needs
 
--- src/lib.rt:75:1
 returns : tie.Need-returns
 returns c =
     let a = c .before .before .before .before .before .before .before .before .before .args in

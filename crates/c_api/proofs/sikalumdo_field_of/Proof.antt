@@ -4,7 +4,7 @@ use Prim.Native.Nat.{ℕ}
 use Rattle.fixed.specs.declared.Site.{Site}
 use Rattle.fetch.specs.Fetch.{fieldOf}
 use Rattle.fetch.specs.declared.Kind.{Kind}
-use Rattle.told.specs.Told.{siteTold, foundAnswer, foundNumbers}
+use Rattle.c_answers.specs.Told.{siteTold, foundAnswer, foundNumbers}
 use Rattle.c_api.specs.Given.{kindOf}
 use borrow.Author.Needs.{needs}
 use Rattle.c_api.proofs.sikalumdo_field_of.Statement.{statement}
@@ -14,34 +14,27 @@ use Rattle.c_api.proofs.sikalumdo_field_of.Lts as lts
 use Rattle.c_api.proofs.kind_of.Reads as kind-of-reads
 use Rattle.c_api.proofs.number_of.Reads as number-of-reads
 use Rattle.fetch.proofs.field_of.Reads as field-of-reads
-use Rattle.told.proofs.site_told.Reads as site-told-reads
-use Rattle.told.proofs.tell_found.Reads as tell-found-reads
+use Rattle.c_answers.proofs.site_told.Reads as site-told-reads
+use Rattle.c_answers.proofs.tell_found.Reads as tell-found-reads
 
--- src/lib.rt:113:9
 site-told-requires : tie.Need-site-told-requires
 site-told-requires c κs = search needs
 
--- src/lib.rt:114:9
 kind-of-requires : tie.Need-kind-of-requires
 kind-of-requires c κs = search needs
 
--- src/lib.rt:115:9
 number-of-requires : tie.Need-number-of-requires
 number-of-requires c κs = search needs
 
--- src/lib.rt:111:9
 field-of-requires : tie.Need-field-of-requires
 field-of-requires c κs = search needs
 
--- src/lib.rt:117:5
 tell-found-requires : tie.Need-tell-found-requires
 tell-found-requires c κs = search needs
 
--- src/lib.rt:100:1
 same-length : tie.Need-same-length
 same-length c = search needs
 
--- src/lib.rt:100:1
 returns : tie.Need-returns
 returns c =
     let a = c .before .before .before .before .before .before .before .before .before .before .before .args in

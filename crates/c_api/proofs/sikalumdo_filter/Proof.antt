@@ -6,37 +6,31 @@ use mir.Syntax.{w32}
 use mir.Val.{ofZ}
 use Rattle.build.specs.declared.Builder.{Builder}
 use Rattle.build.specs.Turns.{filterGiven, afterFilter}
-use Rattle.kept.specs.Kept.{turnAnswer, turnNumbers}
+use Rattle.c_state.specs.Kept.{turnAnswer, turnNumbers}
 use borrow.Author.Needs.{needs}
 use Rattle.c_api.proofs.sikalumdo_filter.Statement.{statement}
 use Rattle.c_api.proofs.sikalumdo_filter.Tie as tie
 use Rattle.c_api.proofs.sikalumdo_filter.Reads as reads
 use Rattle.c_api.proofs.sikalumdo_filter.Lts as lts
 use Rattle.build.proofs.filter.Reads as filter-reads
-use Rattle.kept.proofs.keep.Reads as keep-reads
-use Rattle.kept.proofs.state_of.Reads as state-of-reads
+use Rattle.c_state.proofs.keep.Reads as keep-reads
+use Rattle.c_state.proofs.state_of.Reads as state-of-reads
 
--- src/lib.rt:268:27
 state-of-requires : tie.Need-state-of-requires
 state-of-requires c κs = search needs
 
--- src/lib.rt:268:9
 filter-requires : tie.Need-filter-requires
 filter-requires c κs = search needs
 
--- src/lib.rt:269:5
 keep-requires : tie.Need-keep-requires
 keep-requires c κs = search needs
 
--- src/lib.rt:262:1
 same-length : tie.Need-same-length
 same-length c = search needs
 
--- src/lib.rt:262:1
 same-length-2 : tie.Need-same-length-2
 same-length-2 c = search needs
 
--- src/lib.rt:262:1
 returns : tie.Need-returns
 returns c =
     let a = c .before .before .before .before .before .before .before .before .before .before .before .before .args in

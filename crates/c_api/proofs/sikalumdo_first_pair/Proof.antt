@@ -1,23 +1,20 @@
 -- `c_api::sikalumdo_first_pair` meets its contract.
 use mathlib.Core.Path.{_∙_, ap}
-use Rattle.told.specs.Told.{openingAnswer}
+use Rattle.c_answers.specs.Told.{openingAnswer}
 use borrow.Author.Needs.{needs}
 use Rattle.c_api.proofs.sikalumdo_first_pair.Statement.{statement}
 use Rattle.c_api.proofs.sikalumdo_first_pair.Tie as tie
 use Rattle.c_api.proofs.sikalumdo_first_pair.Reads as reads
 use Rattle.c_api.proofs.sikalumdo_first_pair.Lts as lts
-use Rattle.told.proofs.tell_opening.Reads as tell-opening-reads
+use Rattle.c_answers.proofs.tell_opening.Reads as tell-opening-reads
 use Rattle.walker.proofs.opening_of.Reads as opening-of-reads
 
--- src/lib.rt:190:24
 opening-of-requires : tie.Need-opening-of-requires
 opening-of-requires c κs = search needs
 
--- src/lib.rt:190:5
 tell-opening-requires : tie.Need-tell-opening-requires
 tell-opening-requires c κs = search needs
 
--- src/lib.rt:174:1
 returns : tie.Need-returns
 returns c =
     c .tell-opening .ensures ∙ ap openingAnswer (c .before .opening-of .ensures)

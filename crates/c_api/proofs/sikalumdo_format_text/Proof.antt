@@ -7,37 +7,31 @@ use Rattle.words.proofs.Sign.{back}
 use Rattle.record.specs.Shown.{text}
 use Rattle.build.specs.declared.Builder.{Builder}
 use Rattle.build.specs.Turns.{formatGiven, afterFormat}
-use Rattle.kept.specs.Kept.{turnAnswer, turnNumbers}
+use Rattle.c_state.specs.Kept.{turnAnswer, turnNumbers}
 use borrow.Author.Needs.{needs}
 use Rattle.c_api.proofs.sikalumdo_format_text.Statement.{statement}
 use Rattle.c_api.proofs.sikalumdo_format_text.Tie as tie
 use Rattle.c_api.proofs.sikalumdo_format_text.Reads as reads
 use Rattle.c_api.proofs.sikalumdo_format_text.Lts as lts
 use Rattle.build.proofs.format_text.Reads as format-text-reads
-use Rattle.kept.proofs.keep.Reads as keep-reads
-use Rattle.kept.proofs.state_of.Reads as state-of-reads
+use Rattle.c_state.proofs.keep.Reads as keep-reads
+use Rattle.c_state.proofs.state_of.Reads as state-of-reads
 
--- src/lib.rt:367:32
 state-of-requires : tie.Need-state-of-requires
 state-of-requires c κs = search needs
 
--- src/lib.rt:367:9
 format-text-requires : tie.Need-format-text-requires
 format-text-requires c κs = search needs
 
--- src/lib.rt:368:5
 keep-requires : tie.Need-keep-requires
 keep-requires c κs = search needs
 
--- src/lib.rt:355:1
 same-length : tie.Need-same-length
 same-length c = search needs
 
--- src/lib.rt:355:1
 same-length-2 : tie.Need-same-length-2
 same-length-2 c = search needs
 
--- src/lib.rt:355:1
 returns : tie.Need-returns
 returns c =
     let a = c .before .before .before .before .before .before .before .before .before .before .before .before .before .args in

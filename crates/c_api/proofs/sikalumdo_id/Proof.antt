@@ -3,37 +3,31 @@ use mathlib.Core.Path.{_∙_, ap}
 use lib.ListN.{length}
 use Rattle.build.specs.declared.Builder.{Builder}
 use Rattle.build.specs.Turns.{idGiven, afterId}
-use Rattle.kept.specs.Kept.{turnAnswer, turnNumbers}
+use Rattle.c_state.specs.Kept.{turnAnswer, turnNumbers}
 use borrow.Author.Needs.{needs}
 use Rattle.c_api.proofs.sikalumdo_id.Statement.{statement}
 use Rattle.c_api.proofs.sikalumdo_id.Tie as tie
 use Rattle.c_api.proofs.sikalumdo_id.Reads as reads
 use Rattle.c_api.proofs.sikalumdo_id.Lts as lts
 use Rattle.build.proofs.id.Reads as id-reads
-use Rattle.kept.proofs.keep.Reads as keep-reads
-use Rattle.kept.proofs.state_of.Reads as state-of-reads
+use Rattle.c_state.proofs.keep.Reads as keep-reads
+use Rattle.c_state.proofs.state_of.Reads as state-of-reads
 
--- src/lib.rt:246:23
 state-of-requires : tie.Need-state-of-requires
 state-of-requires c κs = search needs
 
--- src/lib.rt:246:9
 id-requires : tie.Need-id-requires
 id-requires c κs = search needs
 
--- src/lib.rt:247:5
 keep-requires : tie.Need-keep-requires
 keep-requires c κs = search needs
 
--- src/lib.rt:240:1
 same-length : tie.Need-same-length
 same-length c = search needs
 
--- src/lib.rt:240:1
 same-length-2 : tie.Need-same-length-2
 same-length-2 c = search needs
 
--- src/lib.rt:240:1
 returns : tie.Need-returns
 returns c =
     let a = c .before .before .before .before .before .before .before .before .before .before .before .before .before .args in

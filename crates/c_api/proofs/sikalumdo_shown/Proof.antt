@@ -1,23 +1,20 @@
 -- `c_api::sikalumdo_shown` meets its contract.
 use mathlib.Core.Path.{_∙_, ap}
-use Rattle.told.specs.Told.{shownAnswer}
+use Rattle.c_answers.specs.Told.{shownAnswer}
 use borrow.Author.Needs.{needs}
 use Rattle.c_api.proofs.sikalumdo_shown.Statement.{statement}
 use Rattle.c_api.proofs.sikalumdo_shown.Tie as tie
 use Rattle.c_api.proofs.sikalumdo_shown.Reads as reads
 use Rattle.c_api.proofs.sikalumdo_shown.Lts as lts
 use Rattle.elements.proofs.element_at.Reads as element-at-reads
-use Rattle.told.proofs.tell_shown.Reads as tell-shown-reads
+use Rattle.c_answers.proofs.tell_shown.Reads as tell-shown-reads
 
--- src/lib.rt:125:22
 element-at-requires : tie.Need-element-at-requires
 element-at-requires c κs = search needs
 
--- src/lib.rt:125:5
 tell-shown-requires : tie.Need-tell-shown-requires
 tell-shown-requires c κs = search needs
 
--- src/lib.rt:121:1
 returns : tie.Need-returns
 returns c =
     c .tell-shown .ensures ∙ ap shownAnswer (c .before .element-at .ensures)

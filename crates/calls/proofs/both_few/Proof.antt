@@ -6,7 +6,6 @@ use Rattle.calls.proofs.both_few.Tie as tie
 use Rattle.calls.proofs.both_few.Reads as reads
 use Rattle.calls.proofs.both_few.Lts as lts
 
--- src/lib.rt:191:1
 returns : tie.Need-returns
 returns c = and-pick (c .args .good) (ltb (c .args .x) 8)
 

@@ -21,43 +21,35 @@ use Rattle.calls.proofs.few_at.Reads as few-at-reads
 use Rattle.calls.proofs.is_padding.Reads as is-padding-reads
 use Rattle.calls.proofs.raise_few.Reads as raise-few-reads
 
--- src/lib.rt:260:13
 mul-n : tie.Need-mul-n
 mul-n c =
     let a = c .before .args in
     let q : a .count * (a .len * a .w) ≤ length (a .part .now) = omega arith in
     omega (arith, elements-fit _ _ _ _ (c .before .pre .0 .1) q)
 
--- src/lib.rt:261:9
 few-at-requires : tie.Need-few-at-requires
 few-at-requires c κs = let a = c .before .pre .0 in (rw (mul-assoc, ← a .4) (a .0), mul-pos (a .5) (a .6))
 
--- src/lib.rt:262:8
 all-of-requires : tie.Need-all-of-requires
 all-of-requires c κs = search needs
 
--- src/lib.rt:263:9
 count-people-requires : tie.Need-count-people-requires
 count-people-requires c κs = search needs
 
--- src/lib.rt:263:9
 returns : tie.Need-returns
 returns c = search needs
 
--- src/lib.rt:265:8
 is-padding-requires : tie.Need-is-padding-requires
 is-padding-requires c κs =
     let a = c .before .before .before .before .args in
     let q : a .count * (a .len * a .w) ≤ length (a .part .now) - a .from = omega arith in
     omega (arith, elements-fit _ _ _ _ (c .before .before .before .before .pre .0 .1) q)
 
--- src/lib.rt:266:9
 raise-few-requires : tie.Need-raise-few-requires
 raise-few-requires c κs =
     let b = c .before .before .before .before .before .before .before in
     (b .pre .1 .0, wider _ _ (folded (b .args .pairs .now)) (omega arith) (b .pre .1 .1))
 
--- src/lib.rt:267:9
 returns-2 : tie.Need-returns-2
 unfolding total
 returns-2 c =
@@ -72,11 +64,9 @@ returns-2 c =
     (omega (arith, folded-65 (a .pairs .now) (p .1 .0))) (p .1 .1) (f .1) (f .2) (omega arith) d in
     (rw (f .0, w) (b .0), (rw (f .0, w) (r .1 ∙ b .1), (omega arith, r .0, rw (w, mul-one, r .1) (b .2))))
 
--- src/lib.rt:269:5
 count-people-requires-2 : tie.Need-count-people-requires-2
 count-people-requires-2 c κs = search needs
 
--- src/lib.rt:245:1
 returns-3 : tie.Need-returns-3
 returns-3 c = search needs
 

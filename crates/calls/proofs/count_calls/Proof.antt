@@ -34,23 +34,18 @@ Inv-loop part code len w left₀ at₀ without₀ pairs₀ left at without pairs
 abbrev μ-loop : tie.MeasureT-loop
 μ-loop part code len w left₀ at₀ without₀ pairs₀ left at without pairs = left
 
--- src/lib.rt:305:9
 row-of-requires : tie.Need-row-of-requires Inv-loop μ-loop
 row-of-requires c κs = search needs
 
--- src/lib.rt:307:56
 cast-over : tie.Need-cast-over Inv-loop μ-loop
 cast-over c = search needs
 
--- src/lib.rt:307:32
 over-requires : tie.Need-over-requires Inv-loop μ-loop
 over-requires c κs = search needs
 
--- src/lib.rt:307:9
 over-requires-2 : tie.Need-over-requires-2 Inv-loop μ-loop
 over-requires-2 c κs = search needs
 
--- src/lib.rt:311:5
 loop-holds : tie.Need-loop-holds Inv-loop μ-loop
 unfolding spec.counted spec.peopleOf folded
 loop-holds c =
@@ -65,11 +60,9 @@ loop-holds c =
       simp (← n, ← p) (omega arith),
     )
 
--- src/lib.rt:312:13
 together-requires : tie.Need-together-requires Inv-loop μ-loop
 together-requires c κs = search needs
 
--- src/lib.rt:313:20
 count-block-requires : tie.Need-count-block-requires Inv-loop μ-loop
 count-block-requires c κs =
     let l = c .before .before .before .loop in
@@ -80,37 +73,29 @@ count-block-requires c κs =
       (l .inv .3, l .inv .2),
     )
 
--- src/lib.rt:313:9
 add-without : tie.Need-add-without Inv-loop μ-loop
 add-without c = let b = c .count-block .ensures .1 .1 .0 in omega arith
 
--- src/lib.rt:314:26
 cast-at : tie.Need-cast-at Inv-loop μ-loop
 cast-at c = search needs
 
--- src/lib.rt:314:20
 mul-at : tie.Need-mul-at Inv-loop μ-loop
 mul-at c =
     let k = c .before .before .together .ensures in
     omega (arith, block-one _ _ _ _ _ (k .0) (k .1) (c .before .before .before .before .loop .inv .1))
 
--- src/lib.rt:314:15
 mul-at-2 : tie.Need-mul-at-2 Inv-loop μ-loop
 mul-at-2 c = omega (arith, block-room _ _ _ _ _ (c .before .before .together .ensures .1) (c .before .before .before .before .loop .inv .1))
 
--- src/lib.rt:314:9
 add-at : tie.Need-add-at Inv-loop μ-loop
 add-at c = omega (arith, block-room _ _ _ _ _ (c .before .before .together .ensures .1) (c .before .before .before .before .loop .inv .1))
 
--- src/lib.rt:315:9
 sub-left : tie.Need-sub-left Inv-loop μ-loop
 sub-left c = search needs
 
--- src/lib.rt:311:5
 loop-less : tie.Need-loop-less Inv-loop μ-loop
 loop-less c = search needs
 
--- src/lib.rt:311:5
 loop-again : tie.Need-loop-again Inv-loop μ-loop
 loop-again c =
     let l = c .before .before .before .before .loop in
@@ -125,11 +110,9 @@ loop-again c =
       omega (arith, l .inv .5),
     )
 
--- src/lib.rt:319:17
 sum-pairs-requires : tie.Need-sum-pairs-requires Inv-loop μ-loop
 sum-pairs-requires c κs = let l = c .before .before .loop in (l .inv .3, wider _ _ (folded (l .pairs)) (omega arith) (l .inv .2))
 
--- src/lib.rt:302:1
 returns : tie.Need-returns Inv-loop μ-loop
 unfolding spec.people spec.called spec.without
 returns c =

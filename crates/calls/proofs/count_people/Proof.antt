@@ -29,38 +29,30 @@ Inv-loop part code w len from count pairs₀ left₀ at₀ lacking₀ pairs left
 abbrev μ-loop : tie.MeasureT-loop
 μ-loop part code w len from count pairs₀ left₀ at₀ lacking₀ pairs left at lacking = left
 
--- src/lib.rt:111:5
 loop-holds : tie.Need-loop-holds Inv-loop μ-loop
 loop-holds c = (sym (zero-add _), refl, search needs, c .before .pre .1 .1, c .before .pre .1 .0, search needs)
 
--- src/lib.rt:112:20
 count-person-requires : tie.Need-count-person-requires Inv-loop μ-loop
 count-person-requires c κs =
     let l = c .before .before .loop in
     let p = c .before .before .before .before .pre .0 in
     ((omega (arith, room _ _ _ _ (c .before .loop-test .taken) (l .inv .2)), p .1, p .2, p .3), (l .inv .4, l .inv .3))
 
--- src/lib.rt:112:9
 add-lacking : tie.Need-add-lacking Inv-loop μ-loop
 add-lacking c = let b = c .count-person .ensures .1 .1 .0 in omega arith
 
--- src/lib.rt:113:15
 mul-at : tie.Need-mul-at Inv-loop μ-loop
 mul-at c = omega (arith, room _ _ _ _ (c .before .before .loop-test .taken) (c .before .before .before .loop .inv .2))
 
--- src/lib.rt:113:9
 add-at : tie.Need-add-at Inv-loop μ-loop
 add-at c = omega (arith, room _ _ _ _ (c .before .before .loop-test .taken) (c .before .before .before .loop .inv .2))
 
--- src/lib.rt:114:9
 sub-left : tie.Need-sub-left Inv-loop μ-loop
 sub-left c = search needs
 
--- src/lib.rt:111:5
 loop-less : tie.Need-loop-less Inv-loop μ-loop
 loop-less c = search needs
 
--- src/lib.rt:111:5
 loop-again : tie.Need-loop-again Inv-loop μ-loop
 loop-again c =
     let l = c .before .before .before .loop in
@@ -75,7 +67,6 @@ loop-again c =
       omega arith,
     )
 
--- src/lib.rt:93:1
 returns : tie.Need-returns Inv-loop μ-loop
 unfolding spec.people spec.called spec.without
 returns c =

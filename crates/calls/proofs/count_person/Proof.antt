@@ -34,43 +34,33 @@ Inv-loop part code w len from pairs₀ left₀ at₀ none₀ pairs left at none 
 abbrev μ-loop : tie.MeasureT-loop
 μ-loop part code w len from pairs₀ left₀ at₀ none₀ pairs left at none = left
 
--- src/lib.rt:75:5
 loop-holds : tie.Need-loop-holds Inv-loop μ-loop
 loop-holds c = (sym (one-mul _), refl, search needs, c .before .pre .1 .1, c .before .pre .1 .0, search needs)
 
--- src/lib.rt:76:20
 add-stop : tie.Need-add-stop Inv-loop μ-loop
 add-stop c = omega (arith, room _ _ _ _ (c .loop-test .taken) (c .before .loop .inv .2))
 
--- src/lib.rt:77:43
 sub-word : tie.Need-sub-word Inv-loop μ-loop
 sub-word c = search needs
 
--- src/lib.rt:77:43
 part-word-start : tie.Need-part-word-start Inv-loop μ-loop
 part-word-start c = search needs
 
--- src/lib.rt:77:43
 part-word-end : tie.Need-part-word-end Inv-loop μ-loop
 part-word-end c = omega (arith, room _ _ _ _ (c .loop-test .taken) (c .before .loop .inv .2))
 
--- src/lib.rt:77:31
 word-requires : tie.Need-word-requires Inv-loop μ-loop
 word-requires c κs = search needs
 
--- src/lib.rt:77:13
 slot-of-requires : tie.Need-slot-of-requires Inv-loop μ-loop
 slot-of-requires c κs = search needs
 
--- src/lib.rt:78:24
 enum-known-s : tie.Need-enum-known-s Inv-loop μ-loop
 enum-known-s c = search needs
 
--- src/lib.rt:79:13
 enum-told : tie.Need-enum-told Inv-loop μ-loop
 enum-told c = search needs
 
--- src/lib.rt:79:13
 returns : tie.Need-returns Inv-loop μ-loop
 returns c =
     let l = c .before .before .before .before .before .before .loop in
@@ -84,27 +74,21 @@ returns c =
       ),
     )
 
--- src/lib.rt:82:21
 cast-k : tie.Need-cast-k Inv-loop μ-loop
 cast-k c = search needs
 
--- src/lib.rt:82:21
 mul-k : tie.Need-mul-k Inv-loop μ-loop
 mul-k c = search needs
 
--- src/lib.rt:82:21
 add-k : tie.Need-add-k Inv-loop μ-loop
 add-k c = search needs
 
--- src/lib.rt:83:24
 mul-pairs : tie.Need-mul-pairs Inv-loop μ-loop
 mul-pairs c = search needs
 
--- src/lib.rt:83:24
 element-copy-out-pairs : tie.Need-element-copy-out-pairs Inv-loop μ-loop
 element-copy-out-pairs c = search needs
 
--- src/lib.rt:83:24
 add-pairs : tie.Need-add-pairs Inv-loop μ-loop
 add-pairs c =
     let l = c .before .before .before .before .before .before .before .before .before .loop in
@@ -113,23 +97,18 @@ add-pairs c =
     let g : l .left % 2 < 2 = omega arith in
     omega (arith, folded-above (l .pairs) k (l .left % 2) g, room _ _ _ _ (c .before .before .before .before .before .before .before .before .loop-test .taken) (l .inv .2))
 
--- src/lib.rt:83:13
 mul-pairs-2 : tie.Need-mul-pairs-2 Inv-loop μ-loop
 mul-pairs-2 c = search needs
 
--- src/lib.rt:83:13
 element-write-pairs : tie.Need-element-write-pairs Inv-loop μ-loop
 element-write-pairs c = search needs
 
--- src/lib.rt:87:9
 sub-left : tie.Need-sub-left Inv-loop μ-loop
 sub-left c = search needs
 
--- src/lib.rt:75:5
 loop-less : tie.Need-loop-less Inv-loop μ-loop
 loop-less c = search needs
 
--- src/lib.rt:75:5
 loop-again : tie.Need-loop-again Inv-loop μ-loop
 loop-again c =
     let l = c .before .before .before .before .before .before .before .before .loop in
@@ -154,7 +133,6 @@ loop-again c =
       search needs,
     )
 
--- src/lib.rt:58:1
 returns-2 : tie.Need-returns-2 Inv-loop μ-loop
 unfolding slots alleles numbers
 returns-2 c =

@@ -8,21 +8,17 @@ use Rattle.calls.proofs.few_at.Reads as reads
 use Rattle.calls.proofs.few_at.Lts as lts
 use Rattle.calls.proofs.few_of.Reads as few-of-reads
 
--- src/lib.rt:175:9
 returns : tie.Need-returns
 unfolding total
 returns c = λ e. absurd (omega arith)
 
--- src/lib.rt:178:9
 returns-2 : tie.Need-returns-2
 unfolding total
 returns-2 c = λ e. absurd (omega arith)
 
--- src/lib.rt:180:5
 few-of-requires : tie.Need-few-of-requires
 few-of-requires c κs = (one-wide _ _ _ _ (c .before .if1 .left) (c .before .before .before .pre .0), omega arith)
 
--- src/lib.rt:163:1
 returns-3 : tie.Need-returns-3
 returns-3 c = λ e. (c .before .before .if1 .left, c .few-of .ensures .0, c .few-of .ensures .1)
 

@@ -34,67 +34,51 @@ Inv-loop part from count left₀ at₀ none₀ first₀ second₀ third₀ ends�
 abbrev μ-loop : tie.MeasureT-loop
 μ-loop part from count left₀ at₀ none₀ first₀ second₀ third₀ ends₀ left at none first second third ends = left
 
--- src/lib.rt:142:5
 loop-holds : tie.Need-loop-holds Inv-loop μ-loop
 loop-holds c = (sym (zero-add _), sym (zero-add _), sym (zero-add _), sym (zero-add _), search needs, search needs, search needs, search needs, search needs, sym (zero-add _), search needs)
 
--- src/lib.rt:143:17
 shared-slice-read-x : tie.Need-shared-slice-read-x Inv-loop μ-loop
 shared-slice-read-x c = search needs
 
--- src/lib.rt:145:17
 one-where-requires : tie.Need-one-where-requires Inv-loop μ-loop
 one-where-requires c κs = search needs
 
--- src/lib.rt:145:9
 add-none : tie.Need-add-none Inv-loop μ-loop
 add-none c = search needs
 
--- src/lib.rt:146:18
 one-where-requires-2 : tie.Need-one-where-requires-2 Inv-loop μ-loop
 one-where-requires-2 c κs = search needs
 
--- src/lib.rt:146:9
 add-first : tie.Need-add-first Inv-loop μ-loop
 add-first c = search needs
 
--- src/lib.rt:147:19
 one-where-requires-3 : tie.Need-one-where-requires-3 Inv-loop μ-loop
 one-where-requires-3 c κs = search needs
 
--- src/lib.rt:147:9
 add-second : tie.Need-add-second Inv-loop μ-loop
 add-second c = search needs
 
--- src/lib.rt:148:18
 one-where-requires-4 : tie.Need-one-where-requires-4 Inv-loop μ-loop
 one-where-requires-4 c κs = search needs
 
--- src/lib.rt:148:9
 add-third : tie.Need-add-third Inv-loop μ-loop
 add-third c = search needs
 
--- src/lib.rt:149:17
 one-where-requires-5 : tie.Need-one-where-requires-5 Inv-loop μ-loop
 one-where-requires-5 c κs = search needs
 
--- src/lib.rt:149:9
 add-ends : tie.Need-add-ends Inv-loop μ-loop
 add-ends c = search needs
 
--- src/lib.rt:150:9
 add-at : tie.Need-add-at Inv-loop μ-loop
 add-at c = search needs
 
--- src/lib.rt:151:9
 sub-left : tie.Need-sub-left Inv-loop μ-loop
 sub-left c = search needs
 
--- src/lib.rt:142:5
 loop-less : tie.Need-loop-less Inv-loop μ-loop
 loop-less c = search needs
 
--- src/lib.rt:142:5
 loop-again : tie.Need-loop-again Inv-loop μ-loop
 loop-again c =
     let l = c .before .before .before .before .before .before .before .loop in
@@ -113,7 +97,6 @@ loop-again c =
       omega arith,
     )
 
--- src/lib.rt:130:1
 returns : tie.Need-returns Inv-loop μ-loop
 unfolding counters howMany halves numbers
 returns c =

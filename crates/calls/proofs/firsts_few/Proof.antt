@@ -25,38 +25,30 @@ Inv-loop part from count left₀ at₀ good₀ left at good =
 abbrev μ-loop : tie.MeasureT-loop
 μ-loop part from count left₀ at₀ good₀ left at good = left
 
--- src/lib.rt:205:5
 loop-holds : tie.Need-loop-holds Inv-loop μ-loop
 loop-holds c = search needs
 
--- src/lib.rt:206:31
 shared-slice-read-both-few : tie.Need-shared-slice-read-both-few Inv-loop μ-loop
 shared-slice-read-both-few c = search needs
 
--- src/lib.rt:206:9
 both-few-requires : tie.Need-both-few-requires Inv-loop μ-loop
 both-few-requires c κs = search needs
 
--- src/lib.rt:207:9
 add-at : tie.Need-add-at Inv-loop μ-loop
 add-at c = search needs
 
--- src/lib.rt:208:9
 sub-left : tie.Need-sub-left Inv-loop μ-loop
 sub-left c = search needs
 
--- src/lib.rt:205:5
 loop-less : tie.Need-loop-less Inv-loop μ-loop
 loop-less c = search needs
 
--- src/lib.rt:205:5
 loop-again : tie.Need-loop-again Inv-loop μ-loop
 loop-again c =
     let l = c .before .before .before .loop in
     let h = c .before .before .loop-test .taken in
     (l .inv .0 ∙ rw (firsts-turn _ _ _ _ h, ← c .both-few .ensures), room _ _ _ _ h (l .inv .1))
 
--- src/lib.rt:198:1
 returns : tie.Need-returns Inv-loop μ-loop
 unfolding firstsFew people
 returns c =

@@ -9,19 +9,15 @@ use Rattle.calls.proofs.is_padding.Reads as reads
 use Rattle.calls.proofs.is_padding.Lts as lts
 use Rattle.calls.proofs.firsts_few.Reads as firsts-few-reads
 
--- src/lib.rt:219:9
 returns : tie.Need-returns
 returns c = λ e. inl (c .if1 .taken)
 
--- src/lib.rt:222:9
 returns-2 : tie.Need-returns-2
 returns-2 c = λ e. let z : _≡_ {A = ℕ} 0 1 = cc in absurd (omega arith)
 
--- src/lib.rt:224:5
 firsts-few-requires : tie.Need-firsts-few-requires
 firsts-few-requires c κs = rw (c .if2 .left) at (c .before .before .before .pre)
 
--- src/lib.rt:214:1
 returns-3 : tie.Need-returns-3
 returns-3 c = λ e. inr (c .before .if2 .left, sym (c .firsts-few .ensures) ∙ e)
 

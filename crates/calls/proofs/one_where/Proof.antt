@@ -6,11 +6,9 @@ use Rattle.calls.proofs.one_where.Tie as tie
 use Rattle.calls.proofs.one_where.Reads as reads
 use Rattle.calls.proofs.one_where.Lts as lts
 
--- src/lib.rt:124:9
 returns : tie.Need-returns
 returns c = (rw (eq-eqb _ _ (c .if1 .taken)), omega arith)
 
--- src/lib.rt:120:1
 returns-2 : tie.Need-returns-2
 returns-2 c = (rw (ne-eqb _ _ (c .if1 .left)), omega arith)
 

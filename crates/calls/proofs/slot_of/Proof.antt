@@ -6,42 +6,33 @@ use Rattle.calls.proofs.slot_of.Reads as reads
 use Rattle.calls.proofs.slot_of.Lts as lts
 use Rattle.types.proofs.element_of.Reads as element-of-reads
 
--- src/lib.rt:46:9
 element-of-requires : tie.Need-element-of-requires
 element-of-requires c κs = search needs
 
--- src/lib.rt:48:25
 enum-told : tie.Need-enum-told
 enum-told c = search needs
 
--- src/lib.rt:49:29
 enum-told-2 : tie.Need-enum-told-2
 enum-told-2 c = search needs
 
--- src/lib.rt:50:38
 enum-told-3 : tie.Need-enum-told-3
 enum-told-3 c = search needs
 
--- src/lib.rt:51:41
 enum-told-4 : tie.Need-enum-told-4
 enum-told-4 c = search needs
 
--- src/lib.rt:43:1
 -- fill: 49ffab66
 returns : tie.Need-returns
 returns c = simp (← c .before .before .element-of .ensures, c .enum-told .given .1)
 
--- src/lib.rt:43:1
 -- fill: fcfb6a07
 returns-2 : tie.Need-returns-2
 returns-2 c = simp (← c .before .before .element-of .ensures, c .enum-told2 .given .1)
 
--- src/lib.rt:43:1
 -- fill: 10598dbb
 returns-3 : tie.Need-returns-3
 returns-3 c = simp (← c .before .before .element-of .ensures, c .enum-told3 .given .1)
 
--- src/lib.rt:43:1
 -- fill: 3f950ece
 returns-4 : tie.Need-returns-4
 returns-4 c = simp (← c .before .before .element-of .ensures, c .enum-told4 .given .1)

@@ -20,59 +20,45 @@ Inv-loop pairs counts₀ i₀ counts i =
 abbrev μ-loop : tie.MeasureT-loop
 μ-loop pairs counts₀ i₀ counts i = 65 - i
 
--- src/lib.rt:294:5
 loop-holds : tie.Need-loop-holds Inv-loop μ-loop
 loop-holds c = (omega arith, refl, λ j h. absurd (omega arith))
 
--- src/lib.rt:295:27
 mul-counts : tie.Need-mul-counts Inv-loop μ-loop
 mul-counts c = search needs
 
--- src/lib.rt:295:21
 mul-counts-2 : tie.Need-mul-counts-2 Inv-loop μ-loop
 mul-counts-2 c = search needs
 
--- src/lib.rt:295:21
 element-copy-out-counts : tie.Need-element-copy-out-counts Inv-loop μ-loop
 element-copy-out-counts c = search needs
 
--- src/lib.rt:295:42
 mul-counts-3 : tie.Need-mul-counts-3 Inv-loop μ-loop
 mul-counts-3 c = search needs
 
--- src/lib.rt:295:42
 add-counts : tie.Need-add-counts Inv-loop μ-loop
 add-counts c = search needs
 
--- src/lib.rt:295:36
 mul-counts-4 : tie.Need-mul-counts-4 Inv-loop μ-loop
 mul-counts-4 c = search needs
 
--- src/lib.rt:295:36
 element-copy-out-counts-2 : tie.Need-element-copy-out-counts-2 Inv-loop μ-loop
 element-copy-out-counts-2 c = search needs
 
--- src/lib.rt:295:21
 add-counts-2 : tie.Need-add-counts-2 Inv-loop μ-loop
 add-counts-2 c = let b = c .before .before .before .before .pre .1 (c .before .before .before .loop .i) in omega (arith, folded-at (c .before .before .before .before .args .pairs .now) (c .before .before .before .loop .i))
 
--- src/lib.rt:295:9
 mul-counts-5 : tie.Need-mul-counts-5 Inv-loop μ-loop
 mul-counts-5 c = search needs
 
--- src/lib.rt:295:9
 array-write-counts : tie.Need-array-write-counts Inv-loop μ-loop
 array-write-counts c = search needs
 
--- src/lib.rt:296:9
 add-i : tie.Need-add-i Inv-loop μ-loop
 add-i c = search needs
 
--- src/lib.rt:294:5
 loop-less : tie.Need-loop-less Inv-loop μ-loop
 loop-less c = search needs
 
--- src/lib.rt:294:5
 loop-again : tie.Need-loop-again Inv-loop μ-loop
 loop-again c =
     let l = c .before .before .before .loop in
@@ -84,7 +70,6 @@ loop-again c =
           (getD-set-same (l .counts) (l .i) _ 0 (omega arith) ∙ sym (folded-at p (l .i))),
     )
 
--- src/lib.rt:288:1
 returns : tie.Need-returns Inv-loop μ-loop
 returns c =
     let l = c .before .loop in

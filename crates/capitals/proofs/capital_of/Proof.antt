@@ -7,21 +7,17 @@ use Rattle.capitals.proofs.capital_of.Tie as tie
 use Rattle.capitals.proofs.capital_of.Reads as reads
 use Rattle.capitals.proofs.capital_of.Lts as lts
 
--- src/lib.rt:15:16
 add-result : tie.Need-add-result
 add-result c = search needs
 
--- src/lib.rt:15:9
 returns : tie.Need-returns
 unfolding capital
 returns c =
     rw (lt-ltb _ _ (c .if1 .taken))
 
--- src/lib.rt:17:5
 add-result-2 : tie.Need-add-result-2
 add-result-2 c = search needs
 
--- src/lib.rt:10:1
 returns-2 : tie.Need-returns-2
 unfolding capital
 returns-2 c =

@@ -26,7 +26,6 @@ abbrev μ-loop : tie.MeasureT-loop
 μ-loop buf₀ at part i₀ o₀ buf i o =
     length part - i
 
--- src/lib.rt:26:9
 returns : tie.Need-returns Inv-loop μ-loop
 returns c =
     let a = c .before .before .before .args in
@@ -34,11 +33,9 @@ returns c =
     let q : length (a .buf .now) < a .at + length text = omega (arith, length-capitals (a .part .now)) in
     (sym (fits-short _ _ _ q), sym (filled-short _ _ _ q))
 
--- src/lib.rt:28:9
 sub-if2 : tie.Need-sub-if2 Inv-loop μ-loop
 sub-if2 c = search needs
 
--- src/lib.rt:29:9
 returns-2 : tie.Need-returns-2 Inv-loop μ-loop
 returns-2 c =
     let a = c .before .before .before .before .args in
@@ -46,50 +43,39 @@ returns-2 c =
     let q : length (a .buf .now) < a .at + length text = omega (arith, length-capitals (a .part .now)) in
     (sym (fits-short _ _ _ q), sym (filled-short _ _ _ q))
 
--- src/lib.rt:33:5
 loop-holds : tie.Need-loop-holds Inv-loop μ-loop
 loop-holds c = search needs
 
--- src/lib.rt:34:17
 shared-slice-read-b : tie.Need-shared-slice-read-b Inv-loop μ-loop
 shared-slice-read-b c = search needs
 
--- src/lib.rt:35:18
 capital-of-requires : tie.Need-capital-of-requires Inv-loop μ-loop
 capital-of-requires c κs =
     let f = c .shared-slice-known2 .given (c .before .before .loop .i) .fits in
     omega (arith, f)
 
--- src/lib.rt:35:9
 slice-write-buf : tie.Need-slice-write-buf Inv-loop μ-loop
 slice-write-buf c = search needs
 
--- src/lib.rt:36:22
 capital-of-requires-2 : tie.Need-capital-of-requires-2 Inv-loop μ-loop
 capital-of-requires-2 c κs = search needs
 
--- src/lib.rt:36:13
 add-buf : tie.Need-add-buf Inv-loop μ-loop
 add-buf c = search needs
 
--- src/lib.rt:36:9
 slice-write-buf-2 : tie.Need-slice-write-buf-2 Inv-loop μ-loop
 slice-write-buf-2 c =
     rw length-set (omega arith)
 
--- src/lib.rt:37:9
 add-o : tie.Need-add-o Inv-loop μ-loop
 add-o c = search needs
 
--- src/lib.rt:38:9
 add-i : tie.Need-add-i Inv-loop μ-loop
 add-i c = search needs
 
--- src/lib.rt:33:5
 loop-less : tie.Need-loop-less Inv-loop μ-loop
 loop-less c = search needs
 
--- src/lib.rt:33:5
 loop-again : tie.Need-loop-again Inv-loop μ-loop
 loop-again c =
     let l = c .before .before .before .before .loop in
@@ -101,12 +87,10 @@ loop-again c =
       omega arith,
     )
 
--- src/lib.rt:21:1
 same-length : tie.Need-same-length Inv-loop μ-loop
 same-length c =
     c .before .loop .inv .1
 
--- src/lib.rt:21:1
 returns-3 : tie.Need-returns-3 Inv-loop μ-loop
 returns-3 c =
     let l = c .before .loop in

@@ -8,35 +8,27 @@ use Rattle.capitals.proofs.put_eight.Reads as reads
 use Rattle.capitals.proofs.put_eight.Lts as lts
 use Rattle.capitals.proofs.put_capitals.Reads as put-capitals-reads
 
--- src/lib.rt:49:9
 cast-t6 : tie.Need-cast-t6
 cast-t6 c = search needs
 
--- src/lib.rt:50:9
 cast-t9 : tie.Need-cast-t9
 cast-t9 c = search needs
 
--- src/lib.rt:51:9
 cast-t12 : tie.Need-cast-t12
 cast-t12 c = search needs
 
--- src/lib.rt:52:9
 cast-t14 : tie.Need-cast-t14
 cast-t14 c = search needs
 
--- src/lib.rt:54:27
 slice-aggregate-put-capitals : tie.Need-slice-aggregate-put-capitals
 slice-aggregate-put-capitals c = search needs
 
--- src/lib.rt:54:5
 put-capitals-requires : tie.Need-put-capitals-requires
 put-capitals-requires c κs = search needs
 
--- src/lib.rt:44:1
 same-length : tie.Need-same-length
 same-length c = search needs
 
--- src/lib.rt:44:1
 returns : tie.Need-returns
 unfolding highFirst
 returns c =

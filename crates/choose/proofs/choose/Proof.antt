@@ -14,55 +14,45 @@ use Rattle.choose.proofs.choose.Statement.{statement}
 use Rattle.choose.proofs.choose.Tie as tie
 use Rattle.choose.proofs.choose.Reads as reads
 use Rattle.choose.proofs.choose.Lts as lts
-use Rattle.people.proofs.kept_size.Reads as kept-size-reads
-use Rattle.people.proofs.is_ascending.Reads as is-ascending-reads
+use Rattle.choice.proofs.kept_size.Reads as kept-size-reads
+use Rattle.choice.proofs.is_ascending.Reads as is-ascending-reads
 use Rattle.choose.proofs.kept_formats.Reads as kept-formats-reads
 use Rattle.choose.proofs.put_record.Reads as put-record-reads
 use Rattle.record.proofs.read.Reads as read-reads
 use Rattle.record.proofs.reading_refusal.Reads as reading-refusal-reads
 
--- src/lib.rt:235:9
 read-requires : tie.Need-read-requires
 read-requires c κs = search needs
 
--- src/lib.rt:236:29
 enum-known-r : tie.Need-enum-known-r
 enum-known-r c = search needs
 
--- src/lib.rt:237:34
 enum-told : tie.Need-enum-told
 enum-told c = search needs
 
--- src/lib.rt:237:34
 reading-refusal-requires : tie.Need-reading-refusal-requires
 reading-refusal-requires c κs = search needs
 
--- src/lib.rt:237:9
 returns : tie.Need-returns
 unfolding choosing afterChoosing
 returns c =
     let h = sym (c .before .before .before .read .ensures .0) ∙ c .before .enum-told .given .1 in
     (rw (c .reading-refusal .ensures, c .before .enum-told .given .1, h), (tt, rw h))
 
--- src/lib.rt:240:8
 is-ascending-requires : tie.Need-is-ascending-requires
 is-ascending-requires c κs = search needs
 
--- src/lib.rt:243:13
 kept-formats-requires : tie.Need-kept-formats-requires
 kept-formats-requires c κs = search needs
 
--- src/lib.rt:244:32
 slice-aggregate-kept-size : tie.Need-slice-aggregate-kept-size
 slice-aggregate-kept-size c =
     let i = rw (c .before .before .before .before .before .r .given .1) at (c .before .before .before .before .before .before .before .read .ensures .1) in
     sym (length-take-le _ _ (omega (arith, i)))
 
--- src/lib.rt:244:13
 kept-size-requires : tie.Need-kept-size-requires
 kept-size-requires c κs = search needs
 
--- src/lib.rt:245:24
 add-if2 : tie.Need-add-if2
 add-if2 c =
     let a = c .before .before .before .before .before .before .before .before .before .before .before .before .args in
@@ -72,7 +62,6 @@ add-if2 c =
     let small = rw (length-take-le (site .length) (a .s .now) (omega (arith, i))) at (c .kept-size .ensures .1) in
     omega (arith, i, small)
 
--- src/lib.rt:246:13
 returns-2 : tie.Need-returns-2
 unfolding choosing afterChoosing
 returns-2 c =
@@ -89,7 +78,6 @@ returns-2 c =
     let q : length (a .buf .now) < length (chosenRecord site (a .choice .now) (a .s .now)) = omega (arith, size, whole) in
     (rw (h, asc, lt-ltb _ _ q), (tt, rw (h, asc, lt-ltb _ _ q)))
 
--- src/lib.rt:251:9
 put-record-requires : tie.Need-put-record-requires
 put-record-requires c κs =
     let a = c .before .before .before .before .before .before .before .before .before .before .before .before .before .before .args in
@@ -105,7 +93,6 @@ put-record-requires c κs =
     let bound = people-bound (a .facts) (a .s .now) site (v .0 .1 .0) h in
     (asc, bound, omega (arith, i), omega (arith, i), omega (arith, i), omega (arith, i, small), size, omega (arith, i))
 
--- src/lib.rt:252:33
 add-t16 : tie.Need-add-t16
 add-t16 c =
     let a = c .before .before .before .before .before .before .before .before .before .before .before .before .before .before .before .before .before .args in
@@ -115,11 +102,9 @@ add-t16 c =
     let small = rw (length-take-le (site .length) (a .s .now) (omega (arith, i))) at (c .before .before .before .before .before .kept-size .ensures .1) in
     omega (arith, i, small)
 
--- src/lib.rt:252:9
 same-length : tie.Need-same-length
 same-length c = search needs
 
--- src/lib.rt:252:9
 returns-3 : tie.Need-returns-3
 unfolding choosing afterChoosing
 returns-3 c =
@@ -137,7 +122,6 @@ returns-3 c =
     let q : length (chosenRecord site (a .choice .now) (a .s .now)) ≤ length (a .buf .now) = omega (arith, size, whole) in
     (rw (h, asc, le-ltb _ _ q, whole, size), (omega (arith, i, small), rw (h, asc, le-ltb _ _ q) (c .before .before .put-record .ensures)))
 
--- src/lib.rt:230:1
 returns-4 : tie.Need-returns-4
 unfolding choosing afterChoosing
 returns-4 c =

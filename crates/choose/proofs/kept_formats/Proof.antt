@@ -5,12 +5,10 @@ use Rattle.choose.proofs.kept_formats.Tie as tie
 use Rattle.choose.proofs.kept_formats.Reads as reads
 use Rattle.choose.proofs.kept_formats.Lts as lts
 
--- src/lib.rt:178:9
 returns : tie.Need-returns
 returns c =
     rw (kept-none (c .before .args .choice .now) (c .before .args .formats) (c .if1 .taken))
 
--- src/lib.rt:174:1
 returns-2 : tie.Need-returns-2
 returns-2 c =
     rw (kept-some (c .before .args .choice .now) (c .before .args .formats) (c .if1 .left))

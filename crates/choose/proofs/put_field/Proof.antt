@@ -2,7 +2,7 @@
 use mathlib.Core.Path.{_≡_, _∙_}
 use Prim.Native.Nat.{_-_}
 use native.Mathlib.Omega.{arith}
-use Rattle.people.specs.Choice.{chosenParts}
+use Rattle.choice.specs.Choice.{chosenParts}
 use lib.ListN.{length, take, drop, length-drop}
 use lib.Seq.{take-all}
 use Rattle.choose.proofs.Written.{head-stored}
@@ -14,51 +14,39 @@ use Rattle.choose.proofs.put_field.Lts as lts
 use Rattle.choose.proofs.put_people.Reads as put-people-reads
 use Rattle.stores.proofs.put.Reads as put-reads
 
--- src/lib.rt:150:25
 sub-put : tie.Need-sub-put
 sub-put c = search needs
 
--- src/lib.rt:150:25
 part-put-start : tie.Need-part-put-start
 part-put-start c = search needs
 
--- src/lib.rt:150:25
 part-put-end : tie.Need-part-put-end
 part-put-end c = search needs
 
--- src/lib.rt:150:5
 put-requires : tie.Need-put-requires
 put-requires c κs = search needs
 
--- src/lib.rt:151:26
 sub-put-people : tie.Need-sub-put-people
 sub-put-people c = search needs
 
--- src/lib.rt:151:21
 add-put-people : tie.Need-add-put-people
 add-put-people c = search needs
 
--- src/lib.rt:151:39
 sub-put-people-2 : tie.Need-sub-put-people-2
 sub-put-people-2 c = search needs
 
--- src/lib.rt:151:39
 part-put-people-start : tie.Need-part-put-people-start
 part-put-people-start c = search needs
 
--- src/lib.rt:151:39
 part-put-people-end : tie.Need-part-put-people-end
 part-put-people-end c = search needs
 
--- src/lib.rt:151:5
 put-people-requires : tie.Need-put-people-requires
 put-people-requires c κs = search needs
 
--- src/lib.rt:137:1
 same-length : tie.Need-same-length
 same-length c = search needs
 
--- src/lib.rt:137:1
 returns : tie.Need-returns
 returns c =
     let a = c .before .before .before .before .before .before .before .before .before .before .before .before .before .args in

@@ -6,8 +6,8 @@ use lib.ListN.{length, drop}
 use lib.Seq.{sets}
 use Rattle.types.specs.Rows.{widthOf}
 use Rattle.choose.specs.Chosen.{chosenFields}
-use Rattle.people.specs.Sizes.{fieldsSize}
-use Rattle.people.proofs.Sizes.{size-turn}
+use Rattle.choice.specs.Sizes.{fieldsSize}
+use Rattle.choice.proofs.Sizes.{size-turn}
 use Rattle.choose.proofs.Fields.{fields-none}
 use Rattle.choose.proofs.Written.{parts-stop, field-stored}
 use borrow.Author.Needs.{needs}
@@ -15,7 +15,7 @@ use Rattle.choose.proofs.put_fields.Statement.{statement}
 use Rattle.choose.proofs.put_fields.Tie as tie
 use Rattle.choose.proofs.put_fields.Reads as reads
 use Rattle.choose.proofs.put_fields.Lts as lts
-use Rattle.people.proofs.part_size.Reads as part-size-reads
+use Rattle.choice.proofs.part_size.Reads as part-size-reads
 use Rattle.choose.proofs.put_field.Reads as put-field-reads
 use Rattle.fetch.proofs.field_at.Reads as field-at-reads
 
@@ -29,27 +29,21 @@ abbrev μ-loop : tie.MeasureT-loop
 μ-loop buf₀ to block from people choice count o₀ left₀ at₀ buf o left at =
     left
 
--- src/lib.rt:170:5
 loop-holds : tie.Need-loop-holds Inv-loop μ-loop
 loop-holds c = search needs
 
--- src/lib.rt:171:13
 field-at-requires : tie.Need-field-at-requires Inv-loop μ-loop
 field-at-requires c κs = search needs
 
--- src/lib.rt:174:13
 enum-known-f : tie.Need-enum-known-f Inv-loop μ-loop
 enum-known-f c = search needs
 
--- src/lib.rt:180:13
 enum-told : tie.Need-enum-told Inv-loop μ-loop
 enum-told c = search needs
 
--- src/lib.rt:180:13
 same-length : tie.Need-same-length Inv-loop μ-loop
 same-length c = search needs
 
--- src/lib.rt:180:13
 returns : tie.Need-returns Inv-loop μ-loop
 returns c =
     let a = c .before .before .before .before .before .before .before .before .args in
@@ -58,11 +52,9 @@ returns c =
     let e : sets (l .buf) (l .o) (chosenFields (a .people) (a .choice .now) (l .left) (l .at) (drop (l .at) (a .block .now))) ≡ l .buf = rw z in
     sym (l .inv .0 ∙ e)
 
--- src/lib.rt:182:13
 part-size-requires : tie.Need-part-size-requires Inv-loop μ-loop
 part-size-requires c κs = search needs
 
--- src/lib.rt:183:9
 put-field-requires : tie.Need-put-field-requires Inv-loop μ-loop
 put-field-requires c κs =
     let a = c .before .before .before .before .before .before .before .before .before .before .before .args in
@@ -76,14 +68,12 @@ put-field-requires c κs =
     let size = size-turn (a .people) kept (l .left) (l .at) (a .block .now) (c .before .before .before .before .before .before .loop-test .taken) h (omega (arith, i)) in
     (c .before .before .before .before .before .before .before .before .before .before .before .pre .0, omega (arith, i), rw (c .before .part-size .ensures .0) (omega (arith, i, stop)), rw (c .before .part-size .ensures .0) (omega (arith, l .inv .1, size)))
 
--- src/lib.rt:184:14
 sub-o : tie.Need-sub-o Inv-loop μ-loop
 sub-o c =
     let f = c .before .before .before .before .before .before .f .given in
     let i = rw (f .1) at (c .before .before .before .before .before .before .before .before .field-at .ensures .1) in
     omega (arith, i)
 
--- src/lib.rt:184:27
 mul-o : tie.Need-mul-o Inv-loop μ-loop
 mul-o c =
     let a = c .before .before .before .before .before .before .before .before .before .before .before .before .before .before .args in
@@ -98,7 +88,6 @@ mul-o c =
     let e : kept * c .before .before .before .before .part-size .result ≡ kept * (n * w) = ap (λ (x : ℕ). kept * x) (c .before .before .before .before .part-size .ensures .0) in
     omega (arith, size, e, l .inv .1)
 
--- src/lib.rt:184:14
 add-o : tie.Need-add-o Inv-loop μ-loop
 add-o c =
     let a = c .before .before .before .before .before .before .before .before .before .before .before .before .before .before .args in
@@ -113,7 +102,6 @@ add-o c =
     let e : kept * c .before .before .before .before .part-size .result ≡ kept * (n * w) = ap (λ (x : ℕ). kept * x) (c .before .before .before .before .part-size .ensures .0) in
     omega (arith, size, e, l .inv .1)
 
--- src/lib.rt:184:9
 add-o-2 : tie.Need-add-o-2 Inv-loop μ-loop
 add-o-2 c =
     let a = c .before .before .before .before .before .before .before .before .before .before .before .before .before .before .args in
@@ -128,15 +116,12 @@ add-o-2 c =
     let e : kept * c .before .before .before .before .part-size .result ≡ kept * (n * w) = ap (λ (x : ℕ). kept * x) (c .before .before .before .before .part-size .ensures .0) in
     omega (arith, size, e, l .inv .1)
 
--- src/lib.rt:186:9
 sub-left : tie.Need-sub-left Inv-loop μ-loop
 sub-left c = search needs
 
--- src/lib.rt:170:5
 loop-less : tie.Need-loop-less Inv-loop μ-loop
 loop-less c = search needs
 
--- src/lib.rt:170:5
 loop-again : tie.Need-loop-again Inv-loop μ-loop
 loop-again c =
     let a = c .before .before .before .before .before .before .before .before .before .before .before .before .before .before .args in
@@ -153,11 +138,9 @@ loop-again c =
     let k = c .before .before .put-field .kept .0 in
     (l .inv .0 ∙ t ∙ rw (c .before .before .put-field .ensures, c .before .before .before .before .part-size .ensures .0), rw k (omega (arith, i, size, e, l .inv .1)), k ∙ l .inv .2)
 
--- src/lib.rt:155:1
 same-length-2 : tie.Need-same-length-2 Inv-loop μ-loop
 same-length-2 c = search needs
 
--- src/lib.rt:155:1
 returns-2 : tie.Need-returns-2 Inv-loop μ-loop
 unfolding chosenFields
 returns-2 c =

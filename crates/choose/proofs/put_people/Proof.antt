@@ -6,7 +6,7 @@ use native.Mathlib.Omega.{arith}
 use native.Mathlib.Nat.{sub-zero}
 use lib.ListN.{length, drop, getD, drop-of-length-le}
 use lib.Seq.{sets}
-use Rattle.people.specs.Choice.{chosenParts}
+use Rattle.choice.specs.Choice.{chosenParts}
 use Rattle.choose.proofs.Stretches.{stretch-inside, stretch-room, stretch-stored}
 use borrow.Author.Needs.{needs}
 use Rattle.choose.proofs.put_people.Statement.{statement}
@@ -30,28 +30,22 @@ abbrev μ-loop : tie.MeasureT-loop
 μ-loop buf₀ at parts size choice people o₀ i₀ most₀ buf o i most =
     length choice - i
 
--- src/lib.rt:83:5
 loop-holds : tie.Need-loop-holds Inv-loop μ-loop
 loop-holds c =
     (refl, rw sub-zero (c .before .before .before .pre .2), refl, omega arith, omega arith)
 
--- src/lib.rt:84:13
 stretch-requires : tie.Need-stretch-requires Inv-loop μ-loop
 stretch-requires c κs = search needs
 
--- src/lib.rt:85:26
 mul-wide : tie.Need-mul-wide Inv-loop μ-loop
 mul-wide c = search needs
 
--- src/lib.rt:85:26
 shared-slice-read-wide : tie.Need-shared-slice-read-wide Inv-loop μ-loop
 shared-slice-read-wide c = search needs
 
--- src/lib.rt:85:21
 wide-requires : tie.Need-wide-requires Inv-loop μ-loop
 wide-requires c κs = search needs
 
--- src/lib.rt:85:21
 mul-first : tie.Need-mul-first Inv-loop μ-loop
 mul-first c =
     let a = c .before .before .before .before .before .before .before .before .args in
@@ -62,7 +56,6 @@ mul-first c =
     let e : first * a .size ≡ getD (a .choice .now) (l .i) 0 * a .size = ap (λ (x : ℕ). x * a .size) (c .wide .ensures .0) in
     omega (arith, q, e)
 
--- src/lib.rt:86:17
 mul-n : tie.Need-mul-n Inv-loop μ-loop
 mul-n c =
     let a = c .before .before .before .before .before .before .before .before .args in
@@ -71,7 +64,6 @@ mul-n c =
     let q = stretch-inside (a .people) (a .size) (length (a .parts .now)) (a .choice .now) (l .i) (s .result) (c .before .before .before .before .before .before .before .before .pre .0) (c .before .before .before .before .before .before .before .before .pre .1) (s .ensures .0 .0) (s .ensures .0 .1) (s .ensures .1) in
     omega (arith, q)
 
--- src/lib.rt:87:43
 add-put : tie.Need-add-put Inv-loop μ-loop
 add-put c =
     let a = c .before .before .before .before .before .before .before .before .before .args in
@@ -82,15 +74,12 @@ add-put c =
     let e : first * a .size ≡ getD (a .choice .now) (l .i) 0 * a .size = ap (λ (x : ℕ). x * a .size) (c .before .wide .ensures .0) in
     omega (arith, q, e)
 
--- src/lib.rt:87:29
 sub-put : tie.Need-sub-put Inv-loop μ-loop
 sub-put c = search needs
 
--- src/lib.rt:87:29
 part-put-start : tie.Need-part-put-start Inv-loop μ-loop
 part-put-start c = search needs
 
--- src/lib.rt:87:29
 part-put-end : tie.Need-part-put-end Inv-loop μ-loop
 part-put-end c =
     let a = c .before .before .before .before .before .before .before .before .before .args in
@@ -101,11 +90,9 @@ part-put-end c =
     let e : first * a .size ≡ getD (a .choice .now) (l .i) 0 * a .size = ap (λ (x : ℕ). x * a .size) (c .before .wide .ensures .0) in
     omega (arith, q, e)
 
--- src/lib.rt:87:9
 put-requires : tie.Need-put-requires Inv-loop μ-loop
 put-requires c κs = search needs
 
--- src/lib.rt:88:9
 add-o : tie.Need-add-o Inv-loop μ-loop
 add-o c =
     let a = c .before .before .before .before .before .before .before .before .before .before .before .before .before .args in
@@ -114,23 +101,18 @@ add-o c =
     let r = stretch-room (a .size) (l .o) (l .i) (s .result) (length (a .choice .now)) (length (l .buf)) (s .ensures .0 .1) (l .inv .1) in
     omega (arith, r)
 
--- src/lib.rt:89:9
 add-i : tie.Need-add-i Inv-loop μ-loop
 add-i c = search needs
 
--- src/lib.rt:90:16
 lesser-requires : tie.Need-lesser-requires Inv-loop μ-loop
 lesser-requires c κs = search needs
 
--- src/lib.rt:90:16
 mul-most : tie.Need-mul-most Inv-loop μ-loop
 mul-most c = search needs
 
--- src/lib.rt:83:5
 loop-less : tie.Need-loop-less Inv-loop μ-loop
 loop-less c = search needs
 
--- src/lib.rt:83:5
 loop-again : tie.Need-loop-again Inv-loop μ-loop
 loop-again c =
     let a = c .before .before .before .before .before .before .before .before .before .before .before .before .before .before .args in
@@ -141,11 +123,9 @@ loop-again c =
     let k = c .before .before .before .put .kept .0 in
     (l .inv .0 ∙ t ∙ rw (c .before .before .before .put .ensures .1, c .before .before .before .before .before .before .wide .ensures .0), rw k r, k ∙ l .inv .2, s .ensures .0 .1, omega arith)
 
--- src/lib.rt:76:1
 same-length : tie.Need-same-length Inv-loop μ-loop
 same-length c = search needs
 
--- src/lib.rt:76:1
 returns : tie.Need-returns Inv-loop μ-loop
 unfolding chosenParts
 returns c =

@@ -3,7 +3,7 @@ use mathlib.Core.Path.{_∙_, sym}
 use native.Mathlib.Omega.{arith}
 use lib.Seq.{length-take-le}
 use Rattle.choose.specs.Chosen.{chosenBlock}
-use Rattle.people.proofs.Choice.{length-ascending}
+use Rattle.choice.proofs.Choice.{length-ascending}
 use Rattle.choose.proofs.Written.{record-stored, size-block}
 use borrow.Author.Needs.{needs}
 use Rattle.choose.proofs.put_record.Statement.{statement}
@@ -15,59 +15,47 @@ use Rattle.choose.proofs.put_fields.Reads as put-fields-reads
 use Rattle.stores.proofs.put.Reads as put-reads
 use Rattle.stores.proofs.put_number.Reads as put-number-reads
 
--- src/lib.rt:209:9
 kept-formats-requires : tie.Need-kept-formats-requires
 kept-formats-requires c κs = search needs
 
--- src/lib.rt:210:25
 slice-aggregate-put : tie.Need-slice-aggregate-put
 slice-aggregate-put c =
     sym (length-take-le _ _ (omega arith))
 
--- src/lib.rt:210:5
 put-requires : tie.Need-put-requires
 put-requires c κs = search needs
 
--- src/lib.rt:211:46
 cast-put-number : tie.Need-cast-put-number
 cast-put-number c = search needs
 
--- src/lib.rt:211:5
 put-number-requires : tie.Need-put-number-requires
 put-number-requires c κs = search needs
 
--- src/lib.rt:216:9
 cast-put-number-2 : tie.Need-cast-put-number-2
 cast-put-number-2 c = search needs
 
--- src/lib.rt:216:9
 mul-put-number : tie.Need-mul-put-number
 mul-put-number c = search needs
 
--- src/lib.rt:216:35
 cast-put-number-3 : tie.Need-cast-put-number-3
 cast-put-number-3 c =
     let a = c .before .before .before .before .before .before .before .before .before .before .before .before .before .before .args in
     let few = length-ascending 0 (a .site .people) (a .choice .now) (c .before .before .before .before .before .before .before .before .before .before .before .before .before .before .pre .0) in
     omega (arith, few)
 
--- src/lib.rt:216:9
 add-put-number : tie.Need-add-put-number
 add-put-number c =
     let a = c .before .before .before .before .before .before .before .before .before .before .before .before .before .before .args in
     let few = length-ascending 0 (a .site .people) (a .choice .now) (c .before .before .before .before .before .before .before .before .before .before .before .before .before .before .pre .0) in
     omega (arith, few)
 
--- src/lib.rt:212:5
 put-number-requires-2 : tie.Need-put-number-requires-2
 put-number-requires-2 c κs = search needs
 
--- src/lib.rt:221:9
 slice-aggregate-put-fields : tie.Need-slice-aggregate-put-fields
 slice-aggregate-put-fields c =
     sym (length-take-le _ _ (c .before .before .before .before .before .before .before .before .before .before .before .before .before .before .before .before .before .before .before .pre .4))
 
--- src/lib.rt:218:5
 put-fields-requires : tie.Need-put-fields-requires
 put-fields-requires c κs =
     let a = c .before .before .before .before .before .before .before .before .before .before .before .before .before .before .before .before .before .before .before .args in
@@ -76,11 +64,9 @@ put-fields-requires c κs =
     let kept = c .before .before .before .before .put-number2 .kept .0 ∙ c .before .before .before .before .before .before .before .before .put-number .kept .0 ∙ c .before .before .before .before .before .before .before .before .before .before .before .before .put .kept .0 in
     (pre .0, rw (kept, c .before .before .before .before .before .before .before .before .before .before .before .before .before .before .before .kept-formats .ensures, ← size) (omega (arith, pre .6, pre .7)))
 
--- src/lib.rt:203:1
 same-length : tie.Need-same-length
 same-length c = search needs
 
--- src/lib.rt:203:1
 returns : tie.Need-returns
 unfolding chosenBlock
 returns c =

@@ -22,33 +22,27 @@ use Rattle.cuts.proofs.say_record.Reads as say-record-reads
 use Rattle.frames.proofs.say_bad.Reads as say-bad-reads
 use Rattle.hexadecimal.proofs.decode.Reads as decode-reads
 
--- src/lib.rt:103:8
 is-roomy-requires : tie.Need-is-roomy-requires
 is-roomy-requires c κs = search needs
 
--- src/lib.rt:104:13
 decode-requires : tie.Need-decode-requires
 decode-requires c κs = search needs
 
--- src/lib.rt:106:26
 enum-known-f : tie.Need-enum-known-f
 enum-known-f c = search needs
 
--- src/lib.rt:106:48
 slice-reshare-prefix-say-record : tie.Need-slice-reshare-prefix-say-record
 slice-reshare-prefix-say-record c =
     let i = rw (c .before .before .f .given .1) at (c .before .before .before .before .before .before .decode .ensures .1 .0) in
     let q : c .before .before .f .given .0 .0 ≤ length (c .before .before .before .before .before .before .decode .last .1 .0) = omega (arith, i, c .before .before .before .before .before .before .decode .kept .1 .0) in
     q
 
--- src/lib.rt:106:48
 slice-aggregate-say-record : tie.Need-slice-aggregate-say-record
 slice-aggregate-say-record c =
     let i = rw (c .before .before .before .f .given .1) at (c .before .before .before .before .before .before .before .decode .ensures .1 .0) in
     let q : c .before .before .before .f .given .0 .0 ≤ length (c .before .before .before .before .before .before .before .decode .last .1 .0) = omega (arith, i, c .before .before .before .before .before .before .before .decode .kept .1 .0) in
     sym (length-take-le _ _ q)
 
--- src/lib.rt:106:32
 say-record-requires : tie.Need-say-record-requires
 say-record-requires c κs =
     let a = c .before .before .before .before .before .before .before .before .before .before .before .before .before .before .before .before .before .before .before .before .args in
@@ -61,31 +55,24 @@ say-record-requires c κs =
     let known : frameOf (a .line .now) ≡ some bs = told (a .frame .now) (frameOf (a .line .now)) n k ∙ ap (λ (b : List ℕ). some (take n b)) (sym w) in
     (frame-most (a .line .now) bs known, rs .1, rs .2)
 
--- src/lib.rt:107:43
 enum-told : tie.Need-enum-told
 enum-told c = search needs
 
--- src/lib.rt:107:27
 say-bad-requires : tie.Need-say-bad-requires
 say-bad-requires c κs = search needs
 
--- src/lib.rt:108:30
 enum-told-2 : tie.Need-enum-told-2
 enum-told-2 c = search needs
 
--- src/lib.rt:105:9
 same-length : tie.Need-same-length
 same-length c = search needs
 
--- src/lib.rt:105:9
 same-length-2 : tie.Need-same-length-2
 same-length-2 c = search needs
 
--- src/lib.rt:105:9
 same-length-3 : tie.Need-same-length-3
 same-length-3 c = search needs
 
--- src/lib.rt:105:9
 returns : tie.Need-returns
 unfolding cut cutOut cutFrom cutKept
 returns c =
@@ -103,19 +90,15 @@ returns c =
       (p .1 .0, (rw (room, e) (p .1 .1 .0), (rw room w, rw (room, known) (p .1 .1 .1)))),
     )
 
--- src/lib.rt:105:9
 same-length-4 : tie.Need-same-length-4
 same-length-4 c = search needs
 
--- src/lib.rt:105:9
 same-length-5 : tie.Need-same-length-5
 same-length-5 c = search needs
 
--- src/lib.rt:105:9
 same-length-6 : tie.Need-same-length-6
 same-length-6 c = search needs
 
--- src/lib.rt:105:9
 returns-2 : tie.Need-returns-2
 unfolding cut cutOut cutFrom cutKept
 returns-2 c =
@@ -130,19 +113,15 @@ returns-2 c =
       (p .1 .0, (rw room (p .1 .1 ∙ saidIn-as (a .out .now) _ _ (rs .2) e), (rw room (c .before .before .before .before .before .before .before .before .decode .ensures .1 .1), rw (room, none)))),
     )
 
--- src/lib.rt:105:9
 same-length-7 : tie.Need-same-length-7
 same-length-7 c = search needs
 
--- src/lib.rt:105:9
 same-length-8 : tie.Need-same-length-8
 same-length-8 c = search needs
 
--- src/lib.rt:105:9
 same-length-9 : tie.Need-same-length-9
 same-length-9 c = search needs
 
--- src/lib.rt:105:9
 returns-3 : tie.Need-returns-3
 returns-3 c =
     let a = c .before .before .before .before .before .before .before .before .before .before .before .before .before .before .before .before .args in
@@ -151,19 +130,15 @@ returns-3 c =
     let k = sym (rw (c .enum-told2 .given .1) at (c .before .before .before .before .decode .ensures .0)) in
     absurd (frame-room _ (a .line .now) (rs .0) k)
 
--- src/lib.rt:89:1
 same-length-10 : tie.Need-same-length-10
 same-length-10 c = search needs
 
--- src/lib.rt:89:1
 same-length-11 : tie.Need-same-length-11
 same-length-11 c = search needs
 
--- src/lib.rt:89:1
 same-length-12 : tie.Need-same-length-12
 same-length-12 c = search needs
 
--- src/lib.rt:89:1
 returns-4 : tie.Need-returns-4
 unfolding cut cutOut cutFrom cutKept
 returns-4 c =

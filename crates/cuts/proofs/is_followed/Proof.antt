@@ -7,25 +7,20 @@ use Rattle.cuts.proofs.is_followed.Reads as reads
 use Rattle.cuts.proofs.is_followed.Lts as lts
 use Rattle.fixed.proofs.blocks_of.Reads as blocks-of-reads
 
--- src/lib.rt:23:9
 blocks-of-requires : tie.Need-blocks-of-requires
 blocks-of-requires c κs = search needs
 
--- src/lib.rt:24:35
 enum-known-b : tie.Need-enum-known-b
 enum-known-b c = search needs
 
--- src/lib.rt:25:9
 enum-told : tie.Need-enum-told
 enum-told c = search needs
 
--- src/lib.rt:25:9
 -- fill: 854af534
 returns : tie.Need-returns
 unfolding followed
 returns c = simp (← c .before .before .blocks-of .ensures .0, c .enum-told .given .1)
 
--- src/lib.rt:20:1
 -- fill: 7257dc36
 returns-2 : tie.Need-returns-2
 unfolding followed

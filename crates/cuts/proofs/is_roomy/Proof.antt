@@ -6,26 +6,22 @@ use Rattle.cuts.proofs.is_roomy.Tie as tie
 use Rattle.cuts.proofs.is_roomy.Reads as reads
 use Rattle.cuts.proofs.is_roomy.Lts as lts
 
--- src/lib.rt:76:9
 -- fill: c6b21389
 returns : tie.Need-returns
 unfolding roomy
 returns c = simp (lt-ltb _ _ (c .if1 .taken))
 
--- src/lib.rt:79:9
 -- fill: 4ee43582
 returns-2 : tie.Need-returns-2
 unfolding roomy
 returns-2 c = simp (le-ltb _ _ (c .before .if1 .left), lt-ltb _ _ (c .if2 .taken))
 
--- src/lib.rt:82:9
 -- fill: 1e9fde14
 returns-3 : tie.Need-returns-3
 unfolding roomy
 returns-3 c =
     simp (le-ltb _ _ (c .before .before .if1 .left), le-ltb _ _ (c .before .if2 .left), lt-ltb _ _ (c .if3 .taken))
 
--- src/lib.rt:72:1
 -- fill: 354b42a4
 returns-4 : tie.Need-returns-4
 unfolding roomy

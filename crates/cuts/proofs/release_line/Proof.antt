@@ -13,39 +13,31 @@ use Rattle.cuts.proofs.release_line.Reads as reads
 use Rattle.cuts.proofs.release_line.Lts as lts
 use Rattle.capitals.proofs.put_eight.Reads as put-eight-reads
 
--- src/lib.rt:121:9
 returns : tie.Need-returns
 unfolding released releasedIn
 returns c =
     let h = lt-ltb _ _ (c .if1 .taken) in
     (rw h, (tt, rw h))
 
--- src/lib.rt:123:5
 put-eight-requires : tie.Need-put-eight-requires
 put-eight-requires c κs = search needs
 
--- src/lib.rt:124:5
 put-eight-requires-2 : tie.Need-put-eight-requires-2
 put-eight-requires-2 c κs = search needs
 
--- src/lib.rt:125:5
 put-eight-requires-3 : tie.Need-put-eight-requires-3
 put-eight-requires-3 c κs = search needs
 
--- src/lib.rt:126:5
 put-eight-requires-4 : tie.Need-put-eight-requires-4
 put-eight-requires-4 c κs = search needs
 
--- src/lib.rt:127:5
 slice-write-out : tie.Need-slice-write-out
 slice-write-out c = search needs
 
--- src/lib.rt:115:1
 same-length : tie.Need-same-length
 same-length c =
     rw length-set (omega (arith, c .before .before .put-eight4 .kept, c .before .before .before .before .before .before .put-eight3 .kept, c .before .before .before .before .before .before .before .before .before .before .put-eight2 .kept, c .before .before .before .before .before .before .before .before .before .before .before .before .before .before .put-eight .kept))
 
--- src/lib.rt:115:1
 returns-2 : tie.Need-returns-2
 unfolding released releasedIn
 returns-2 c =

@@ -20,31 +20,24 @@ use Rattle.frames.proofs.say_bad.Reads as say-bad-reads
 use Rattle.frames.proofs.say_refusal.Reads as say-refusal-reads
 use Rattle.record.proofs.read.Reads as read-reads
 
--- src/lib.rt:57:8
 is-followed-requires : tie.Need-is-followed-requires
 is-followed-requires c κs = search needs
 
--- src/lib.rt:58:13
 read-requires : tie.Need-read-requires
 read-requires c κs = search needs
 
--- src/lib.rt:59:30
 enum-known-r : tie.Need-enum-known-r
 enum-known-r c = search needs
 
--- src/lib.rt:60:36
 enum-told : tie.Need-enum-told
 enum-told c = search needs
 
--- src/lib.rt:60:13
 say-bad-requires : tie.Need-say-bad-requires
 say-bad-requires c κs = search needs
 
--- src/lib.rt:60:13
 same-length : tie.Need-same-length
 same-length c = search needs
 
--- src/lib.rt:60:13
 returns : tie.Need-returns
 returns c =
     let a = c .before .before .before .before .before .before .before .before .before .before .before .before .before .args in
@@ -57,15 +50,12 @@ returns c =
       (p .1 .0, (p .1 .1 ∙ saidIn-as (a .out .now) _ _ (pre .2) (e .0), sym (e .1))),
     )
 
--- src/lib.rt:62:9
 say-refusal-requires : tie.Need-say-refusal-requires
 say-refusal-requires c κs = search needs
 
--- src/lib.rt:62:9
 same-length-2 : tie.Need-same-length-2
 same-length-2 c = search needs
 
--- src/lib.rt:62:9
 returns-2 : tie.Need-returns-2
 returns-2 c =
     let a = c .before .before .before .before .before .before .before .before .before .before .before .before .before .before .args in
@@ -77,29 +67,24 @@ returns-2 c =
       (p .1 .0, (p .1 .1 ∙ saidIn-as (a .out .now) _ _ (pre .2) (e .0), sym (e .1))),
     )
 
--- src/lib.rt:64:9
 choose-requires : tie.Need-choose-requires
 choose-requires c κs = search needs
 
--- src/lib.rt:66:26
 enum-known-c : tie.Need-enum-known-c
 enum-known-c c = search needs
 
--- src/lib.rt:66:46
 slice-reshare-prefix-say-text : tie.Need-slice-reshare-prefix-say-text
 slice-reshare-prefix-say-text c =
     let i = rw (c .before .before .c .given .1) at (c .before .before .before .before .before .before .choose .ensures .1 .0) in
     let q : c .before .before .c .given .0 .0 ≤ length (c .before .before .before .before .before .before .choose .last .1 .1 .1 .0) = omega (arith, i, c .before .before .before .before .before .before .choose .kept .1 .1 .1 .0) in
     q
 
--- src/lib.rt:66:46
 slice-aggregate-say-text : tie.Need-slice-aggregate-say-text
 slice-aggregate-say-text c =
     let i = rw (c .before .before .before .c .given .1) at (c .before .before .before .before .before .before .before .choose .ensures .1 .0) in
     let q : c .before .before .before .c .given .0 .0 ≤ length (c .before .before .before .before .before .before .before .choose .last .1 .1 .1 .0) = omega (arith, i, c .before .before .before .before .before .before .before .choose .kept .1 .1 .1 .0) in
     sym (length-take-le _ _ q)
 
--- src/lib.rt:66:32
 say-text-requires : tie.Need-say-text-requires
 say-text-requires c κs =
     let i = rw (c .before .before .before .c .given .1) at (c .before .before .before .before .before .before .before .choose .ensures .1 .0) in
@@ -113,23 +98,18 @@ say-text-requires c κs =
     let l = length-take-le n (c .before .before .before .before .before .before .before .choose .last .1 .1 .1 .0) q in
     (rw l (omega (arith, e)), pre .2)
 
--- src/lib.rt:67:27
 enum-known-c-2 : tie.Need-enum-known-c-2
 enum-known-c-2 c = search needs
 
--- src/lib.rt:67:33
 say-refusal-requires-2 : tie.Need-say-refusal-requires-2
 say-refusal-requires-2 c κs = search needs
 
--- src/lib.rt:44:1
 same-length-3 : tie.Need-same-length-3
 same-length-3 c = search needs
 
--- src/lib.rt:44:1
 same-length-4 : tie.Need-same-length-4
 same-length-4 c = search needs
 
--- src/lib.rt:44:1
 returns-3 : tie.Need-returns-3
 returns-3 c =
     let a = c .before .before .before .before .before .before .before .before .before .before .before .before .before .before .before .before .before .before .args in
@@ -145,15 +125,12 @@ returns-3 c =
       (p .1 .0, (p .1 .1 ∙ ap (sets (a .out .now) 0) (sym t), after ∙ sym (e .1))),
     )
 
--- src/lib.rt:44:1
 same-length-5 : tie.Need-same-length-5
 same-length-5 c = search needs
 
--- src/lib.rt:44:1
 same-length-6 : tie.Need-same-length-6
 same-length-6 c = search needs
 
--- src/lib.rt:44:1
 returns-4 : tie.Need-returns-4
 returns-4 c =
     let a = c .before .before .before .before .before .before .before .before .before .before .before .before .before .before .before .before .before .args in

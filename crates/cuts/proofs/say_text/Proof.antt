@@ -10,27 +10,21 @@ use Rattle.cuts.proofs.say_text.Reads as reads
 use Rattle.cuts.proofs.say_text.Lts as lts
 use Rattle.capitals.proofs.put_capitals.Reads as put-capitals-reads
 
--- src/lib.rt:37:13
 mul-n : tie.Need-mul-n
 mul-n c = search needs
 
--- src/lib.rt:38:5
 put-capitals-requires : tie.Need-put-capitals-requires
 put-capitals-requires c κs = search needs
 
--- src/lib.rt:39:5
 slice-write-out : tie.Need-slice-write-out
 slice-write-out c = search needs
 
--- src/lib.rt:40:18
 add-t4 : tie.Need-add-t4
 add-t4 c = search needs
 
--- src/lib.rt:31:1
 same-length : tie.Need-same-length
 same-length c = search needs
 
--- src/lib.rt:31:1
 returns : tie.Need-returns
 returns c =
     let a = c .before .before .before .before .before .before .args in

@@ -7,51 +7,40 @@ use Rattle.elements.proofs.call_of.Lts as lts
 use Rattle.elements.proofs.code_call.Reads as code-call-reads
 use Rattle.types.proofs.element_of.Reads as element-of-reads
 
--- src/lib.rt:55:9
 element-of-requires : tie.Need-element-of-requires
 element-of-requires c κs = search needs
 
--- src/lib.rt:57:25
 enum-told : tie.Need-enum-told
 enum-told c = search needs
 
--- src/lib.rt:58:29
 enum-told-2 : tie.Need-enum-told-2
 enum-told-2 c = search needs
 
--- src/lib.rt:59:27
 enum-told-3 : tie.Need-enum-told-3
 enum-told-3 c = search needs
 
--- src/lib.rt:59:27
 code-call-requires : tie.Need-code-call-requires
 code-call-requires c κs = search needs
 
--- src/lib.rt:60:30
 enum-told-4 : tie.Need-enum-told-4
 enum-told-4 c = search needs
 
--- src/lib.rt:60:30
 code-call-requires-2 : tie.Need-code-call-requires-2
 code-call-requires-2 c κs = search needs
 
--- src/lib.rt:52:1
 -- fill: 49ffab66
 returns : tie.Need-returns
 returns c = simp (← c .before .before .element-of .ensures, c .enum-told .given .1)
 
--- src/lib.rt:52:1
 -- fill: fcfb6a07
 returns-2 : tie.Need-returns-2
 returns-2 c = simp (← c .before .before .element-of .ensures, c .enum-told2 .given .1)
 
--- src/lib.rt:52:1
 -- fill: 8d14c6b6
 returns-3 : tie.Need-returns-3
 returns-3 c =
     simp (← c .before .before .before .element-of .ensures, c .before .enum-told3 .given .1, c .code-call .ensures)
 
--- src/lib.rt:52:1
 -- fill: 18c747b0
 returns-4 : tie.Need-returns-4
 returns-4 c =

@@ -7,17 +7,14 @@ use Rattle.elements.proofs.code_call.Tie as tie
 use Rattle.elements.proofs.code_call.Reads as reads
 use Rattle.elements.proofs.code_call.Lts as lts
 
--- src/lib.rt:41:9
 -- fill: eaadfe61
 returns : tie.Need-returns
 unfolding codeCall
 returns c = simp (eq-eqb _ _ (c .if1 .taken))
 
--- src/lib.rt:46:17
 sub-t6 : tie.Need-sub-t6
 sub-t6 c = search needs
 
--- src/lib.rt:36:1
 -- fill: 286c95e6
 returns-2 : tie.Need-returns-2
 unfolding codeCall

@@ -29,35 +29,27 @@ abbrev μ-loop : tie.MeasureT-loop
 μ-loop values good₀ i₀ good i =
     length values - i
 
--- src/lib.rt:59:5
 loop-holds : tie.Need-loop-holds Inv-loop μ-loop
 loop-holds c = search needs
 
--- src/lib.rt:60:45
 mul-bits : tie.Need-mul-bits Inv-loop μ-loop
 mul-bits c = search needs
 
--- src/lib.rt:60:45
 shared-slice-copy-out-bits : tie.Need-shared-slice-copy-out-bits Inv-loop μ-loop
 shared-slice-copy-out-bits c = search needs
 
--- src/lib.rt:60:33
 bits-requires : tie.Need-bits-requires Inv-loop μ-loop
 bits-requires c κs = search needs
 
--- src/lib.rt:60:23
 fits-byte-requires : tie.Need-fits-byte-requires Inv-loop μ-loop
 fits-byte-requires c κs = search needs
 
--- src/lib.rt:61:9
 add-i : tie.Need-add-i Inv-loop μ-loop
 add-i c = search needs
 
--- src/lib.rt:59:5
 loop-less : tie.Need-loop-less Inv-loop μ-loop
 loop-less c = search needs
 
--- src/lib.rt:59:5
 loop-again : tie.Need-loop-again Inv-loop μ-loop
 loop-again c =
     let l = c .before .before .before .before .loop in
@@ -68,7 +60,6 @@ loop-again c =
     let f : c .fits-byte .result ≡ leb (typeFor (kind 3 x) x) 1 = c .fits-byte .ensures ∙ rw b in
     (l .inv .0 ∙ sweep-turn-bits (a .values .now) 1 (l .i) (l .good) (c .before .before .before .loop-test .taken) ∙ rw f, omega arith)
 
--- src/lib.rt:54:1
 returns : tie.Need-returns Inv-loop μ-loop
 returns c =
     let l = c .before .loop in

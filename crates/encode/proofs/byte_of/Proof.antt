@@ -11,25 +11,21 @@ use Rattle.encode.proofs.byte_of.Reads as reads
 use Rattle.encode.proofs.byte_of.Lts as lts
 use Rattle.encode.proofs.mark_step.Reads as mark-step-reads
 
--- src/lib.rt:141:19
 mark-step-requires : tie.Need-mark-step-requires
 mark-step-requires c κs = search needs
 
--- src/lib.rt:141:6
 add-result : tie.Need-add-result
 add-result c =
     let x = c .before .args .bits in
     let e : x % 256 + c .mark-step .result ≡ narrowed 1 x % 256 = rw (c .mark-step .ensures) (byte-narrowed x) in
     omega (arith, e)
 
--- src/lib.rt:141:5
 cast-result : tie.Need-cast-result
 cast-result c =
     let x = c .before .args .bits in
     let e : x % 256 + c .mark-step .result ≡ narrowed 1 x % 256 = rw (c .mark-step .ensures) (byte-narrowed x) in
     omega (arith, e)
 
--- src/lib.rt:138:1
 returns : tie.Need-returns
 returns c =
     rw (c .mark-step .ensures) (byte-narrowed (c .before .args .bits))

@@ -8,21 +8,17 @@ use Rattle.encode.proofs.descriptor_size.Reads as reads
 use Rattle.encode.proofs.descriptor_size.Lts as lts
 use Rattle.encode.proofs.integer_size.Reads as integer-size-reads
 
--- src/lib.rt:77:9
 -- fill: 5d9e43e0
 returns : tie.Need-returns
 returns c =
     (rw (length-descriptorBytes _ _) (simp (lt-ltb _ _ (c .if1 .taken))), search needs)
 
--- src/lib.rt:79:9
 integer-size-requires : tie.Need-integer-size-requires
 integer-size-requires c κs = search needs
 
--- src/lib.rt:79:5
 add-result : tie.Need-add-result
 add-result c = search needs
 
--- src/lib.rt:72:1
 -- fill: 3484e709
 returns-2 : tie.Need-returns-2
 returns-2 c =

@@ -9,20 +9,17 @@ use Rattle.encode.proofs.integer_size.Tie as tie
 use Rattle.encode.proofs.integer_size.Reads as reads
 use Rattle.encode.proofs.integer_size.Lts as lts
 
--- src/lib.rt:57:9
 -- fill: ff4f0dc0
 returns : tie.Need-returns
 unfolding narrowest widthOf rowOf
 returns c = (rw (length-integerBytes _) (simp (le-leb _ _ (c .if1 .taken))), search needs)
 
--- src/lib.rt:60:9
 -- fill: 06b79a5c
 returns-2 : tie.Need-returns-2
 unfolding narrowest widthOf rowOf
 returns-2 c =
     (rw (length-integerBytes _) (simp (lt-leb _ _ (c .before .if1 .left), le-leb _ _ (c .if2 .taken))), search needs)
 
--- src/lib.rt:63:9
 -- fill: dd40c406
 returns-3 : tie.Need-returns-3
 unfolding narrowest widthOf rowOf
@@ -35,7 +32,6 @@ returns-3 c = (
   search needs,
 )
 
--- src/lib.rt:66:9
 -- fill: 9e87e0b3
 returns-4 : tie.Need-returns-4
 unfolding narrowest widthOf rowOf
@@ -49,7 +45,6 @@ returns-4 c = (
   search needs,
 )
 
--- src/lib.rt:52:1
 -- fill: 3a30de40
 returns-5 : tie.Need-returns-5
 unfolding narrowest widthOf rowOf

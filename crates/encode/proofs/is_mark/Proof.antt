@@ -5,7 +5,6 @@ use Rattle.encode.proofs.is_mark.Tie as tie
 use Rattle.encode.proofs.is_mark.Reads as reads
 use Rattle.encode.proofs.is_mark.Lts as lts
 
--- src/lib.rt:29:1
 returns : tie.Need-returns
 returns c = mark-half (c .args .x)
 

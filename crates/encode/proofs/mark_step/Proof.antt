@@ -6,16 +6,13 @@ use Rattle.encode.proofs.mark_step.Reads as reads
 use Rattle.encode.proofs.mark_step.Lts as lts
 use Rattle.encode.proofs.is_mark.Reads as is-mark-reads
 
--- src/lib.rt:167:8
 is-mark-requires : tie.Need-is-mark-requires
 is-mark-requires c κs = search needs
 
--- src/lib.rt:168:9
 -- fill: 8178346c
 returns : tie.Need-returns
 returns c = simp (← c .before .is-mark .ensures, c .if1 .taken)
 
--- src/lib.rt:164:1
 -- fill: f8881bd6
 returns-2 : tie.Need-returns-2
 returns-2 c = simp (← c .before .is-mark .ensures, c .if1 .left)

@@ -7,11 +7,9 @@ use Rattle.encode.proofs.narrowest_code.Reads as reads
 use Rattle.encode.proofs.narrowest_code.Lts as lts
 use Rattle.types.proofs.narrowest_type.Reads as narrowest-type-reads
 
--- src/lib.rt:32:5
 narrowest-type-requires : tie.Need-narrowest-type-requires
 narrowest-type-requires c κs = search needs
 
--- src/lib.rt:28:1
 returns : tie.Need-returns
 returns c =
     (c .narrowest-type .ensures, rw (c .narrowest-type .ensures) (narrowest-range _))

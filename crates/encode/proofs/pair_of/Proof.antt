@@ -11,18 +11,15 @@ use Rattle.encode.proofs.pair_of.Reads as reads
 use Rattle.encode.proofs.pair_of.Lts as lts
 use Rattle.encode.proofs.mark_step.Reads as mark-step-reads
 
--- src/lib.rt:148:20
 mark-step-requires : tie.Need-mark-step-requires
 mark-step-requires c κs = search needs
 
--- src/lib.rt:148:5
 add-result : tie.Need-add-result
 add-result c =
     let x = c .before .args .bits in
     let e : x % 65536 + c .mark-step .result ≡ narrowed 2 x % 65536 = rw (c .mark-step .ensures) (pair-narrowed x) in
     omega (arith, e)
 
--- src/lib.rt:145:1
 returns : tie.Need-returns
 returns c =
     rw (c .mark-step .ensures) (pair-narrowed (c .before .args .bits))

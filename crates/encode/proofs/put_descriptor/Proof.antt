@@ -17,15 +17,12 @@ use Rattle.encode.proofs.descriptor_size.Reads as descriptor-size-reads
 use Rattle.encode.proofs.put_integer.Reads as put-integer-reads
 use Rattle.stores.proofs.has_room.Reads as has-room-reads
 
--- src/lib.rt:112:41
 descriptor-size-requires : tie.Need-descriptor-size-requires
 descriptor-size-requires c κs = search needs
 
--- src/lib.rt:112:9
 has-room-requires : tie.Need-has-room-requires
 has-room-requires c κs = search needs
 
--- src/lib.rt:113:9
 returns : tie.Need-returns
 returns c =
     let a = c .before .before .before .before .args in
@@ -34,11 +31,9 @@ returns c =
     let s : length (a .buf .now) < a .at + length (descriptorBytes (a .code) (a .n)) = omega (arith, q) in
     (sym (fits-short _ _ _ s), sym (filled-short _ _ _ s))
 
--- src/lib.rt:116:19
 add-buf : tie.Need-add-buf
 add-buf c = search needs
 
--- src/lib.rt:116:9
 slice-write-buf : tie.Need-slice-write-buf
 slice-write-buf c =
     let a = c .before .before .before .before .before .args in
@@ -48,7 +43,6 @@ slice-write-buf c =
     let m : length (descriptorBytes (a .code) (a .n)) ≡ 1 + length (integerBytes (a .n)) = length-descriptorBytes (a .code) (a .n) ∙ rw t in
     omega (arith, q, n, m)
 
--- src/lib.rt:117:33
 add-put-integer : tie.Need-add-put-integer
 add-put-integer c =
     let a = c .before .before .before .before .before .before .args in
@@ -58,16 +52,13 @@ add-put-integer c =
     let m : length (descriptorBytes (a .code) (a .n)) ≡ 1 + length (integerBytes (a .n)) = length-descriptorBytes (a .code) (a .n) ∙ rw t in
     omega (arith, q, n, m)
 
--- src/lib.rt:117:9
 put-integer-requires : tie.Need-put-integer-requires
 put-integer-requires c κs = search needs
 
--- src/lib.rt:117:9
 same-length : tie.Need-same-length
 same-length c =
     c .before .before .put-integer .kept .0 ∙ length-set (c .before .before .before .before .before .before .before .before .before .args .buf .now) _ _
 
--- src/lib.rt:117:9
 returns-2 : tie.Need-returns-2
 unfolding descriptorBytes
 returns-2 c =
@@ -82,19 +73,15 @@ returns-2 c =
       p .1 ∙ rw e (filled-on (a .buf .now) (a .at) (0xF0 + a .code % 16) (integerBytes (a .n)) (omega (arith, q, n, m))),
     )
 
--- src/lib.rt:119:15
 cast-buf : tie.Need-cast-buf
 cast-buf c = search needs
 
--- src/lib.rt:119:15
 mul-buf : tie.Need-mul-buf
 mul-buf c = search needs
 
--- src/lib.rt:119:15
 add-buf-2 : tie.Need-add-buf-2
 add-buf-2 c = search needs
 
--- src/lib.rt:119:5
 slice-write-buf-2 : tie.Need-slice-write-buf-2
 slice-write-buf-2 c =
     let a = c .before .before .before .before .before .args in
@@ -103,11 +90,9 @@ slice-write-buf-2 c =
     let m : length (descriptorBytes (a .code) (a .n)) ≡ 1 = length-descriptorBytes (a .code) (a .n) ∙ rw (lt-ltb _ _ (c .if2 .left)) in
     omega (arith, q, n, m)
 
--- src/lib.rt:108:1
 same-length-2 : tie.Need-same-length-2
 same-length-2 c = search needs
 
--- src/lib.rt:108:1
 returns-3 : tie.Need-returns-3
 unfolding descriptorBytes
 returns-3 c =

@@ -30,16 +30,13 @@ abbrev μ-loop : tie.MeasureT-loop
 μ-loop buf₀ at bits o₀ i₀ buf o i =
     length bits - i
 
--- src/lib.rt:172:41
 mul-has-room : tie.Need-mul-has-room Inv-loop μ-loop
 mul-has-room c =
     search needs
 
--- src/lib.rt:172:9
 has-room-requires : tie.Need-has-room-requires Inv-loop μ-loop
 has-room-requires c κs = search needs
 
--- src/lib.rt:173:9
 returns : tie.Need-returns Inv-loop μ-loop
 unfolding widthOf rowOf
 returns c =
@@ -49,39 +46,31 @@ returns c =
     let s : length (a .buf .now) < a .at + length (elementsBytes 5 (a .bits .now)) = omega (arith, q, n) in
     (sym (fits-short _ _ _ s), sym (filled-short _ _ _ s))
 
--- src/lib.rt:177:5
 loop-holds : tie.Need-loop-holds Inv-loop μ-loop
 loop-holds c =
     let a = c .before .before .before .before .args in
     let q : a .at + length (a .bits .now) * 4 ≤ length (a .buf .now) = room-there _ _ _ (sym (c .before .has-room .ensures) ∙ not-false _ (c .if1 .left)) in
     (refl, rw sub-zero q, refl, omega arith)
 
--- src/lib.rt:178:39
 mul-store : tie.Need-mul-store Inv-loop μ-loop
 mul-store c = search needs
 
--- src/lib.rt:178:39
 shared-slice-read-store : tie.Need-shared-slice-read-store Inv-loop μ-loop
 shared-slice-read-store c = search needs
 
--- src/lib.rt:178:9
 store-requires : tie.Need-store-requires Inv-loop μ-loop
 store-requires c κs = search needs
 
--- src/lib.rt:179:9
 add-o : tie.Need-add-o Inv-loop μ-loop
 add-o c =
     omega arith
 
--- src/lib.rt:180:9
 add-i : tie.Need-add-i Inv-loop μ-loop
 add-i c = search needs
 
--- src/lib.rt:177:5
 loop-less : tie.Need-loop-less Inv-loop μ-loop
 loop-less c = search needs
 
--- src/lib.rt:177:5
 loop-again : tie.Need-loop-again Inv-loop μ-loop
 unfolding widthOf rowOf narrowed
 loop-again c =
@@ -90,11 +79,9 @@ loop-again c =
     let t = elements-turn (l .buf) (l .o) 5 (a .bits .now) (l .i) (c .before .before .before .before .before .loop-test .taken) in
     (l .inv .0 ∙ t ∙ rw (c .before .before .store .ensures), omega arith, c .before .before .store .kept .0 ∙ l .inv .2, omega arith)
 
--- src/lib.rt:168:1
 same-length : tie.Need-same-length Inv-loop μ-loop
 same-length c = search needs
 
--- src/lib.rt:168:1
 returns-2 : tie.Need-returns-2 Inv-loop μ-loop
 unfolding widthOf rowOf
 returns-2 c =

@@ -21,27 +21,21 @@ use Rattle.stores.proofs.has_room.Reads as has-room-reads
 use Rattle.stores.proofs.put_number.Reads as put-number-reads
 use Rattle.types.proofs.row_of.Reads as row-of-reads
 
--- src/lib.rt:95:9
 narrowest-code-requires : tie.Need-narrowest-code-requires
 narrowest-code-requires c κs = search needs
 
--- src/lib.rt:96:9
 row-of-requires : tie.Need-row-of-requires
 row-of-requires c κs = search needs
 
--- src/lib.rt:97:45
 cast-has-room : tie.Need-cast-has-room
 cast-has-room c = search needs
 
--- src/lib.rt:97:41
 add-has-room : tie.Need-add-has-room
 add-has-room c = search needs
 
--- src/lib.rt:97:9
 has-room-requires : tie.Need-has-room-requires
 has-room-requires c κs = search needs
 
--- src/lib.rt:98:9
 returns : tie.Need-returns
 returns c =
     let a = c .before .before .before .before .before .before .args in
@@ -51,32 +45,26 @@ returns c =
     let s : length (a .buf .now) < a .at + length (integerBytes (a .bits)) = omega (arith, q) in
     (sym (fits-short _ _ _ s), sym (filled-short _ _ _ s))
 
--- src/lib.rt:100:15
 add-buf : tie.Need-add-buf
 add-buf c = search needs
 
--- src/lib.rt:100:5
 slice-write-buf : tie.Need-slice-write-buf
 slice-write-buf c =
     let q : c .before .before .before .before .before .before .args .at + (1 + c .before .before .before .row-of .result .width) ≤ length (c .before .before .before .before .before .before .args .buf .now) = room-there _ _ _ (sym (c .before .has-room .ensures) ∙ not-false _ (c .if1 .left)) in
     omega (arith, q)
 
--- src/lib.rt:101:29
 add-put-number : tie.Need-add-put-number
 add-put-number c =
     let q : c .before .before .before .before .before .before .before .args .at + (1 + c .before .before .before .before .row-of .result .width) ≤ length (c .before .before .before .before .before .before .before .args .buf .now) = room-there _ _ _ (sym (c .before .before .has-room .ensures) ∙ not-false _ (c .before .if1 .left)) in
     omega (arith, q)
 
--- src/lib.rt:101:5
 put-number-requires : tie.Need-put-number-requires
 put-number-requires c κs = search needs
 
--- src/lib.rt:91:1
 same-length : tie.Need-same-length
 same-length c =
     c .before .before .put-number .kept .0 ∙ length-set (c .before .before .before .before .before .before .before .before .before .before .args .buf .now) _ _
 
--- src/lib.rt:91:1
 returns-2 : tie.Need-returns-2
 unfolding integerBytes
 returns-2 c =

@@ -24,26 +24,21 @@ use Rattle.encode.proofs.put_pairs.Reads as put-pairs-reads
 use Rattle.stores.proofs.has_room.Reads as has-room-reads
 use Rattle.types.proofs.row_of.Reads as row-of-reads
 
--- src/lib.rt:237:9
 row-of-requires : tie.Need-row-of-requires
 row-of-requires c κs = search needs
 
--- src/lib.rt:239:56
 cast-has-room : tie.Need-cast-has-room
 cast-has-room c = search needs
 
--- src/lib.rt:239:41
 mul-has-room : tie.Need-mul-has-room
 mul-has-room c =
     let n = length (c .before .before .args .values .now) in
     let q : n * c .row-of .result .width ≤ n * 4 = mul-le-mul-left n (c .row-of .ensures .1 .1) in
     omega (arith, q, c .before .before .good .1 .1 .1 .0)
 
--- src/lib.rt:239:9
 has-room-requires : tie.Need-has-room-requires
 has-room-requires c κs = search needs
 
--- src/lib.rt:240:9
 returns : tie.Need-returns
 returns c =
     let a = c .before .before .before .before .args in
@@ -54,7 +49,6 @@ returns c =
     let s : length (a .buf .now) < a .at + length (elementsBytes (a .code) xs) = omega (arith, q, n) in
     (sym (fits-short _ _ _ s), sym (filled-short _ _ _ s))
 
--- src/lib.rt:243:9
 put-bytes-requires : tie.Need-put-bytes-requires
 unfolding widthOf rowOf
 put-bytes-requires c κs =
@@ -63,18 +57,15 @@ put-bytes-requires c κs =
     let w : c .before .before .before .before .row-of .result .width ≡ 1 = c .before .before .before .before .row-of .ensures .1 .0 ∙ rw (c .before .if2 .taken) in
     let p = rw w at q in omega (arith, p)
 
--- src/lib.rt:244:9
 same-length : tie.Need-same-length
 same-length c = search needs
 
--- src/lib.rt:244:9
 returns-2 : tie.Need-returns-2
 returns-2 c =
     let a = c .before .before .before .before .before .before .before .before .before .args in
     let q : a .at + length (a .values .now) * c .before .before .before .before .before .before .before .row-of .result .width ≤ length (a .buf .now) = room-there _ _ _ (sym (c .before .before .before .before .before .before .has-room .ensures) ∙ not-false _ (c .before .before .before .before .before .if1 .left)) in
     integers-stored (a .buf .now) (a .at) (a .code) (c .before .before .before .before .before .before .before .row-of .result .width) (a .values .now) (c .before .before .before .before .before .before .before .row-of .ensures .1 .0) q (c .before .before .put-bytes .ensures ∙ rw (c .before .before .before .before .if2 .taken))
 
--- src/lib.rt:247:9
 put-pairs-requires : tie.Need-put-pairs-requires
 unfolding widthOf rowOf
 put-pairs-requires c κs =
@@ -83,18 +74,15 @@ put-pairs-requires c κs =
     let w : c .before .before .before .before .before .row-of .result .width ≡ 2 = c .before .before .before .before .before .row-of .ensures .1 .0 ∙ rw (c .before .if3 .taken) in
     rw w at q
 
--- src/lib.rt:248:9
 same-length-2 : tie.Need-same-length-2
 same-length-2 c = search needs
 
--- src/lib.rt:248:9
 returns-3 : tie.Need-returns-3
 returns-3 c =
     let a = c .before .before .before .before .before .before .before .before .before .before .args in
     let q : a .at + length (a .values .now) * c .before .before .before .before .before .before .before .before .row-of .result .width ≤ length (a .buf .now) = room-there _ _ _ (sym (c .before .before .before .before .before .before .before .has-room .ensures) ∙ not-false _ (c .before .before .before .before .before .before .if1 .left)) in
     integers-stored (a .buf .now) (a .at) (a .code) (c .before .before .before .before .before .before .before .before .row-of .result .width) (a .values .now) (c .before .before .before .before .before .before .before .before .row-of .ensures .1 .0) q (c .before .before .put-pairs .ensures ∙ rw (c .before .before .before .before .if3 .taken))
 
--- src/lib.rt:251:9
 put-fours-requires : tie.Need-put-fours-requires
 unfolding widthOf rowOf
 put-fours-requires c κs =
@@ -103,18 +91,15 @@ put-fours-requires c κs =
     let w : c .before .before .before .before .before .before .row-of .result .width ≡ 4 = c .before .before .before .before .before .before .row-of .ensures .1 .0 ∙ rw (c .before .if4 .taken) in
     rw w at q
 
--- src/lib.rt:252:9
 same-length-3 : tie.Need-same-length-3
 same-length-3 c = search needs
 
--- src/lib.rt:252:9
 returns-4 : tie.Need-returns-4
 returns-4 c =
     let a = c .before .before .before .before .before .before .before .before .before .before .before .args in
     let q : a .at + length (a .values .now) * c .before .before .before .before .before .before .before .before .before .row-of .result .width ≤ length (a .buf .now) = room-there _ _ _ (sym (c .before .before .before .before .before .before .before .before .has-room .ensures) ∙ not-false _ (c .before .before .before .before .before .before .before .if1 .left)) in
     integers-stored (a .buf .now) (a .at) (a .code) (c .before .before .before .before .before .before .before .before .before .row-of .result .width) (a .values .now) (c .before .before .before .before .before .before .before .before .before .row-of .ensures .1 .0) q (c .before .before .put-fours .ensures ∙ rw (c .before .before .before .before .if4 .taken))
 
--- src/lib.rt:254:5
 put-others-requires : tie.Need-put-others-requires
 put-others-requires c κs =
     let a = c .before .before .before .before .before .before .before .before .args in
@@ -122,11 +107,9 @@ put-others-requires c κs =
     let w = c .before .before .before .before .before .before .row-of .ensures .1 in
     (q, w .0, w .1, w .2, c .before .before .before .if2 .left, c .before .before .if3 .left)
 
--- src/lib.rt:233:1
 same-length-4 : tie.Need-same-length-4
 same-length-4 c = search needs
 
--- src/lib.rt:233:1
 returns-5 : tie.Need-returns-5
 returns-5 c =
     let a = c .before .before .before .before .before .before .before .before .before .before .before .args in

@@ -33,24 +33,19 @@ abbrev μ-loop : tie.MeasureT-loop
 μ-loop buf₀ at code w values o₀ i₀ buf o i =
     length values - i
 
--- src/lib.rt:225:5
 loop-holds : tie.Need-loop-holds Inv-loop μ-loop
 loop-holds c =
     (refl, rw sub-zero (c .before .pre .0), refl, omega arith)
 
--- src/lib.rt:226:38
 mul-bits : tie.Need-mul-bits Inv-loop μ-loop
 mul-bits c = search needs
 
--- src/lib.rt:226:38
 shared-slice-copy-out-bits : tie.Need-shared-slice-copy-out-bits Inv-loop μ-loop
 shared-slice-copy-out-bits c = search needs
 
--- src/lib.rt:226:26
 bits-requires : tie.Need-bits-requires Inv-loop μ-loop
 bits-requires c κs = search needs
 
--- src/lib.rt:226:9
 store-requires : tie.Need-store-requires Inv-loop μ-loop
 store-requires c κs =
     let l = c .before .before .before .before .loop in
@@ -59,19 +54,15 @@ store-requires c κs =
     let r = element-room (l .o) (length (a .values .now)) (l .i) (a .w) (length (a .buf .now)) (c .before .before .before .loop-test .taken) (l .inv .1) in
     (rw (l .inv .2) (r .0), p .2, p .3)
 
--- src/lib.rt:227:9
 add-o : tie.Need-add-o Inv-loop μ-loop
 add-o c = search needs
 
--- src/lib.rt:228:9
 add-i : tie.Need-add-i Inv-loop μ-loop
 add-i c = search needs
 
--- src/lib.rt:225:5
 loop-less : tie.Need-loop-less Inv-loop μ-loop
 loop-less c = search needs
 
--- src/lib.rt:225:5
 loop-again : tie.Need-loop-again Inv-loop μ-loop
 loop-again c =
     let l = c .before .before .before .before .before .before .before .loop in
@@ -87,11 +78,9 @@ loop-again c =
     = t ∙ rw (← p .1, other-narrowed (a .code) (ofZ w32 z) (p .4) (p .5)) in
     (l .inv .0 ∙ e ∙ rw (c .before .before .store .ensures, b), r .1, c .before .before .store .kept .0 ∙ l .inv .2, omega arith)
 
--- src/lib.rt:219:1
 same-length : tie.Need-same-length Inv-loop μ-loop
 same-length c = search needs
 
--- src/lib.rt:219:1
 returns : tie.Need-returns Inv-loop μ-loop
 returns c =
     let l = c .before .loop in

@@ -33,43 +33,33 @@ abbrev μ-loop : tie.MeasureT-loop
 μ-loop buf₀ at values o₀ i₀ buf o i =
     length values - i
 
--- src/lib.rt:197:5
 loop-holds : tie.Need-loop-holds Inv-loop μ-loop
 loop-holds c = search needs
 
--- src/lib.rt:198:46
 mul-bits : tie.Need-mul-bits Inv-loop μ-loop
 mul-bits c = search needs
 
--- src/lib.rt:198:46
 shared-slice-copy-out-bits : tie.Need-shared-slice-copy-out-bits Inv-loop μ-loop
 shared-slice-copy-out-bits c = search needs
 
--- src/lib.rt:198:34
 bits-requires : tie.Need-bits-requires Inv-loop μ-loop
 bits-requires c κs = search needs
 
--- src/lib.rt:198:26
 pair-of-requires : tie.Need-pair-of-requires Inv-loop μ-loop
 pair-of-requires c κs = search needs
 
--- src/lib.rt:198:9
 store-requires : tie.Need-store-requires Inv-loop μ-loop
 store-requires c κs = search needs
 
--- src/lib.rt:199:9
 add-o : tie.Need-add-o Inv-loop μ-loop
 add-o c = search needs
 
--- src/lib.rt:200:9
 add-i : tie.Need-add-i Inv-loop μ-loop
 add-i c = search needs
 
--- src/lib.rt:197:5
 loop-less : tie.Need-loop-less Inv-loop μ-loop
 loop-less c = search needs
 
--- src/lib.rt:197:5
 loop-again : tie.Need-loop-again Inv-loop μ-loop
 unfolding widthOf rowOf
 loop-again c =
@@ -82,11 +72,9 @@ loop-again c =
     let t = elements-turn-bits (l .buf) (l .o) 2 (a .values .now) (l .i) h in
     (l .inv .0 ∙ t ∙ rw (c .before .before .store .ensures, v, pair-bytes (narrowed 2 (ofZ w32 z))), omega arith, c .before .before .store .kept .0 ∙ l .inv .2, omega arith)
 
--- src/lib.rt:191:1
 same-length : tie.Need-same-length Inv-loop μ-loop
 same-length c = search needs
 
--- src/lib.rt:191:1
 returns : tie.Need-returns Inv-loop μ-loop
 returns c =
     let l = c .before .loop in

@@ -10,113 +10,88 @@ use Rattle.encode.proofs.store.Tie as tie
 use Rattle.encode.proofs.store.Reads as reads
 use Rattle.encode.proofs.store.Lts as lts
 
--- src/lib.rt:158:19
 cast-buf : tie.Need-cast-buf
 cast-buf c = search needs
 
--- src/lib.rt:158:9
 slice-write-buf : tie.Need-slice-write-buf
 slice-write-buf c = search needs
 
--- src/lib.rt:159:23
 cast-buf-2 : tie.Need-cast-buf-2
 cast-buf-2 c = search needs
 
--- src/lib.rt:159:13
 add-buf : tie.Need-add-buf
 add-buf c = search needs
 
--- src/lib.rt:159:9
 slice-write-buf-2 : tie.Need-slice-write-buf-2
 slice-write-buf-2 c =
     simp length-set (omega arith)
 
--- src/lib.rt:160:23
 cast-buf-3 : tie.Need-cast-buf-3
 cast-buf-3 c = search needs
 
--- src/lib.rt:160:13
 add-buf-2 : tie.Need-add-buf-2
 add-buf-2 c = search needs
 
--- src/lib.rt:160:9
 slice-write-buf-3 : tie.Need-slice-write-buf-3
 slice-write-buf-3 c =
     simp length-set (omega arith)
 
--- src/lib.rt:161:23
 cast-buf-4 : tie.Need-cast-buf-4
 cast-buf-4 c = search needs
 
--- src/lib.rt:161:13
 add-buf-3 : tie.Need-add-buf-3
 add-buf-3 c = search needs
 
--- src/lib.rt:161:9
 slice-write-buf-4 : tie.Need-slice-write-buf-4
 slice-write-buf-4 c =
     simp length-set (omega arith)
 
--- src/lib.rt:162:9
 same-length : tie.Need-same-length
 same-length c = search needs
 
--- src/lib.rt:162:9
 returns : tie.Need-returns
 unfolding bytes
 returns c =
     rw (c .if1 .taken) (simp towards-suc)
 
--- src/lib.rt:165:19
 cast-buf-5 : tie.Need-cast-buf-5
 cast-buf-5 c = search needs
 
--- src/lib.rt:165:9
 slice-write-buf-5 : tie.Need-slice-write-buf-5
 slice-write-buf-5 c = search needs
 
--- src/lib.rt:166:23
 cast-buf-6 : tie.Need-cast-buf-6
 cast-buf-6 c = search needs
 
--- src/lib.rt:166:13
 add-buf-4 : tie.Need-add-buf-4
 add-buf-4 c = search needs
 
--- src/lib.rt:166:9
 slice-write-buf-6 : tie.Need-slice-write-buf-6
 slice-write-buf-6 c =
     simp length-set (omega arith)
 
--- src/lib.rt:167:9
 same-length-2 : tie.Need-same-length-2
 same-length-2 c = search needs
 
--- src/lib.rt:167:9
 returns-2 : tie.Need-returns-2
 unfolding bytes
 returns-2 c =
     rw (c .if2 .taken) (simp towards-suc)
 
--- src/lib.rt:170:9
 returns-3 : tie.Need-returns-3
 unfolding bytes
 returns-3 c =
     rw (c .if3 .taken)
 
--- src/lib.rt:172:15
 cast-buf-7 : tie.Need-cast-buf-7
 cast-buf-7 c = search needs
 
--- src/lib.rt:172:5
 slice-write-buf-7 : tie.Need-slice-write-buf-7
 slice-write-buf-7 c = search needs
 
--- src/lib.rt:151:1
 same-length-3 : tie.Need-same-length-3
 same-length-3 c = search needs
 
--- src/lib.rt:151:1
 returns-4 : tie.Need-returns-4
 unfolding bytes
 returns-4 c =

@@ -10,25 +10,20 @@ use Rattle.encode.proofs.widest_type.Lts as lts
 use Rattle.encode.proofs.all_bytes.Reads as all-bytes-reads
 use Rattle.encode.proofs.all_pairs.Reads as all-pairs-reads
 
--- src/lib.rt:84:8
 all-bytes-requires : tie.Need-all-bytes-requires
 all-bytes-requires c κs = search needs
 
--- src/lib.rt:85:9
 returns : tie.Need-returns
 returns c =
     (widest-1 _ (sym (c .before .all-bytes .ensures) ∙ c .if1 .taken), omega arith)
 
--- src/lib.rt:87:8
 all-pairs-requires : tie.Need-all-pairs-requires
 all-pairs-requires c κs = search needs
 
--- src/lib.rt:88:9
 returns-2 : tie.Need-returns-2
 returns-2 c =
     (widest-2 _ (sym (c .before .before .before .all-bytes .ensures) ∙ c .before .before .if1 .left) (sym (c .before .all-pairs .ensures) ∙ c .if2 .taken), omega arith)
 
--- src/lib.rt:80:1
 returns-3 : tie.Need-returns-3
 returns-3 c =
     (widest-3 _ (sym (c .before .all-pairs .ensures) ∙ c .if2 .left), omega arith)

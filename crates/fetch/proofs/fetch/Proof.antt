@@ -9,15 +9,12 @@ use Rattle.fetch.proofs.fetch.Lts as lts
 use Rattle.fetch.proofs.find.Reads as find-reads
 use Rattle.fetch.proofs.part.Reads as part-reads
 
--- src/lib.rt:343:13
 find-requires : tie.Need-find-requires
 find-requires c κs = search needs
 
--- src/lib.rt:343:5
 part-requires : tie.Need-part-requires
 part-requires c κs = search needs
 
--- src/lib.rt:339:1
 returns : tie.Need-returns
 unfolding fetched fetchedAt
 returns c = (rw (← c .before .find .ensures .0) (c .part .ensures .0), rw (← c .before .find .ensures .0) (c .part .ensures .1))

@@ -7,63 +7,48 @@ use Rattle.fetch.proofs.field_at.Lts as lts
 use Rattle.fetch.proofs.key_and_value.Reads as key-and-value-reads
 use Rattle.fetch.proofs.value_alone.Reads as value-alone-reads
 
--- src/lib.rt:127:44
 enum-told : tie.Need-enum-told
 enum-told c = search needs
 
--- src/lib.rt:127:21
 value-alone-requires : tie.Need-value-alone-requires
 value-alone-requires c κs = search needs
 
--- src/lib.rt:128:48
 enum-told-2 : tie.Need-enum-told-2
 enum-told-2 c = search needs
 
--- src/lib.rt:128:25
 value-alone-requires-2 : tie.Need-value-alone-requires-2
 value-alone-requires-2 c κs = search needs
 
--- src/lib.rt:129:48
 enum-told-3 : tie.Need-enum-told-3
 enum-told-3 c = search needs
 
--- src/lib.rt:129:25
 value-alone-requires-3 : tie.Need-value-alone-requires-3
 value-alone-requires-3 c κs = search needs
 
--- src/lib.rt:130:48
 enum-told-4 : tie.Need-enum-told-4
 enum-told-4 c = search needs
 
--- src/lib.rt:130:23
 key-and-value-requires : tie.Need-key-and-value-requires
 key-and-value-requires c κs = search needs
 
--- src/lib.rt:131:50
 enum-told-5 : tie.Need-enum-told-5
 enum-told-5 c = search needs
 
--- src/lib.rt:131:25
 key-and-value-requires-2 : tie.Need-key-and-value-requires-2
 key-and-value-requires-2 c κs = search needs
 
--- src/lib.rt:122:1
 returns : tie.Need-returns
 returns c = rw (c .before .enum-told .given .1) (c .value-alone .ensures)
 
--- src/lib.rt:122:1
 returns-2 : tie.Need-returns-2
 returns-2 c = rw (c .before .enum-told2 .given .1) (c .value-alone2 .ensures)
 
--- src/lib.rt:122:1
 returns-3 : tie.Need-returns-3
 returns-3 c = rw (c .before .enum-told3 .given .1) (c .value-alone3 .ensures)
 
--- src/lib.rt:122:1
 returns-4 : tie.Need-returns-4
 returns-4 c = rw (c .before .enum-told4 .given .1) (c .key-and-value .ensures)
 
--- src/lib.rt:122:1
 returns-5 : tie.Need-returns-5
 returns-5 c = rw (c .before .enum-told5 .given .1) (c .key-and-value2 .ensures)
 

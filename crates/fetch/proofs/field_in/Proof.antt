@@ -13,32 +13,25 @@ use Rattle.fetch.proofs.field_at.Reads as field-at-reads
 use Rattle.fetch.proofs.step_refused.Reads as step-refused-reads
 use Rattle.fetch.proofs.to_field.Reads as to-field-reads
 
--- src/lib.rt:208:9
 to-field-requires : tie.Need-to-field-requires
 to-field-requires c κs = search needs
 
--- src/lib.rt:209:18
 enum-known-p : tie.Need-enum-known-p
 enum-known-p c = search needs
 
--- src/lib.rt:210:9
 enum-told : tie.Need-enum-told
 enum-told c = search needs
 
--- src/lib.rt:210:9
 step-refused-requires : tie.Need-step-refused-requires
 step-refused-requires c κs = search needs
 
--- src/lib.rt:210:9
 returns : tie.Need-returns
 unfolding fieldIn
 returns c = (simp (← c .before .before .before .to-field .ensures .0, c .before .enum-told .given .1, c .step-refused .ensures), rw (c .step-refused .ensures, c .before .enum-told .given .1) tt)
 
--- src/lib.rt:212:5
 field-at-requires : tie.Need-field-at-requires
 field-at-requires c κs = search needs
 
--- src/lib.rt:204:1
 returns-2 : tie.Need-returns-2
 unfolding fieldIn
 returns-2 c =

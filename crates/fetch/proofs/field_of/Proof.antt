@@ -20,41 +20,32 @@ use Rattle.fetch.proofs.no_field.Reads as no-field-reads
 use Rattle.fetch.proofs.or_none.Reads as or-none-reads
 use Rattle.fetch.proofs.up_to.Reads as up-to-reads
 
--- src/lib.rt:294:8
 count-of-requires : tie.Need-count-of-requires
 count-of-requires c κs = search needs
 
--- src/lib.rt:295:9
 no-field-requires : tie.Need-no-field-requires
 no-field-requires c κs = search needs
 
--- src/lib.rt:295:9
 returns : tie.Need-returns
 returns c =
     let a = c .before .before .before .before .args in
     (simp (field-number (a .kind) (a .number) (a .site) (a .s .now), ← c .before .before .count-of .ensures, le-leb _ _ (c .before .if1 .taken), c .no-field .ensures), rw (c .no-field .ensures) tt)
 
--- src/lib.rt:300:19
 cast-alleles : tie.Need-cast-alleles
 cast-alleles c = search needs
 
--- src/lib.rt:301:8
 is-format-requires : tie.Need-is-format-requires
 is-format-requires c κs = search needs
 
--- src/lib.rt:302:33
 up-to-requires : tie.Need-up-to-requires
 up-to-requires c κs = search needs
 
--- src/lib.rt:302:24
 field-in-requires : tie.Need-field-in-requires
 field-in-requires c κs = search needs
 
--- src/lib.rt:302:9
 or-none-requires : tie.Need-or-none-requires
 or-none-requires c κs = search needs
 
--- src/lib.rt:302:9
 returns-2 : tie.Need-returns-2
 returns-2 c =
     let a = c .before .before .before .before .before .before .before .before .before .args in
@@ -75,19 +66,15 @@ returns-2 c =
           (none-inside (c .before .field-in .result) (t .border) (length (c .before .before .up-to .result .now)) (length s) (rw (e, length-take) (omega arith)) (c .before .field-in .ensures .1)),
     )
 
--- src/lib.rt:304:22
 up-to-requires-2 : tie.Need-up-to-requires-2
 up-to-requires-2 c κs = search needs
 
--- src/lib.rt:304:13
 field-in-requires-2 : tie.Need-field-in-requires-2
 field-in-requires-2 c κs = search needs
 
--- src/lib.rt:304:5
 or-none-requires-2 : tie.Need-or-none-requires-2
 or-none-requires-2 c κs = search needs
 
--- src/lib.rt:290:1
 returns-3 : tie.Need-returns-3
 returns-3 c =
     let a = c .before .before .before .before .before .before .before .before .before .args in

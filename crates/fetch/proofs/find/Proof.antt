@@ -9,32 +9,25 @@ use Rattle.fetch.proofs.field_of.Reads as field-of-reads
 use Rattle.record.proofs.read.Reads as read-reads
 use Rattle.record.proofs.reading_refusal.Reads as reading-refusal-reads
 
--- src/lib.rt:312:9
 read-requires : tie.Need-read-requires
 read-requires c κs = search needs
 
--- src/lib.rt:313:29
 enum-known-r : tie.Need-enum-known-r
 enum-known-r c = search needs
 
--- src/lib.rt:314:31
 enum-told : tie.Need-enum-told
 enum-told c = search needs
 
--- src/lib.rt:314:31
 reading-refusal-requires : tie.Need-reading-refusal-requires
 reading-refusal-requires c κs = search needs
 
--- src/lib.rt:314:9
 returns : tie.Need-returns
 unfolding found
 returns c = (rw (c .reading-refusal .ensures, ← c .before .before .before .read .ensures .0, c .before .enum-told .given .1), tt)
 
--- src/lib.rt:316:5
 field-of-requires : tie.Need-field-of-requires
 field-of-requires c κs = search needs
 
--- src/lib.rt:308:1
 returns-2 : tie.Need-returns-2
 unfolding found
 returns-2 c = (simp (← c .before .before .before .before .read .ensures .0, c .before .before .r .given .1, c .field-of .ensures .0), c .field-of .ensures .1)

@@ -14,36 +14,28 @@ use Rattle.fetch.proofs.value_field.Reads as value-field-reads
 use Rattle.values.proofs.integer_at.Reads as integer-at-reads
 use Rattle.values.proofs.value_at.Reads as value-at-reads
 
--- src/lib.rt:114:9
 integer-at-requires : tie.Need-integer-at-requires
 integer-at-requires c κs = search needs
 
--- src/lib.rt:115:24
 enum-known-k : tie.Need-enum-known-k
 enum-known-k c = search needs
 
--- src/lib.rt:116:9
 enum-told : tie.Need-enum-told
 enum-told c = search needs
 
--- src/lib.rt:116:9
 key-refused-requires : tie.Need-key-refused-requires
 key-refused-requires c κs = search needs
 
--- src/lib.rt:116:9
 returns : tie.Need-returns
 unfolding paired
 returns c = (simp (← c .before .before .before .integer-at .ensures .0, c .before .enum-told .given .1, c .key-refused .ensures), rw (c .key-refused .ensures, c .before .enum-told .given .1) tt)
 
--- src/lib.rt:118:23
 value-at-requires : tie.Need-value-at-requires
 value-at-requires c κs = search needs
 
--- src/lib.rt:118:5
 value-field-requires : tie.Need-value-field-requires
 value-field-requires c κs = search needs
 
--- src/lib.rt:110:1
 returns-2 : tie.Need-returns-2
 unfolding paired
 returns-2 c =

@@ -8,49 +8,39 @@ use Rattle.fetch.proofs.part.Tie as tie
 use Rattle.fetch.proofs.part.Reads as reads
 use Rattle.fetch.proofs.part.Lts as lts
 
--- src/lib.rt:324:9
 enum-known-f : tie.Need-enum-known-f
 enum-known-f c = search needs
 
--- src/lib.rt:328:16
 enum-told : tie.Need-enum-told
 enum-told c = search needs
 
--- src/lib.rt:328:16
 sub-result : tie.Need-sub-result
 sub-result c = search needs
 
--- src/lib.rt:328:16
 part-result-start : tie.Need-part-result-start
 part-result-start c = search needs
 
--- src/lib.rt:328:16
 part-result-end : tie.Need-part-result-end
 part-result-end c = search needs
 
--- src/lib.rt:328:9
 returns : tie.Need-returns
 returns c = (rw (c .before .enum-told .given .1), rw (c .before .enum-told .given .1, zero-add))
 
--- src/lib.rt:330:5
 sub-result-2 : tie.Need-sub-result-2
 sub-result-2 c =
     let i = rw (c .before .f .given .1) at (c .before .before .before .pre) in
     omega (arith, i)
 
--- src/lib.rt:330:5
 part-result-start-2 : tie.Need-part-result-start-2
 part-result-start-2 c =
     let i = rw (c .before .f .given .1) at (c .before .before .before .pre) in
     omega (arith, i)
 
--- src/lib.rt:330:5
 part-result-end-2 : tie.Need-part-result-end-2
 part-result-end-2 c =
     let i = rw (c .before .f .given .1) at (c .before .before .before .pre) in
     omega (arith, i)
 
--- src/lib.rt:315:1
 returns-2 : tie.Need-returns-2
 returns-2 c = rw (c .before .before .f .given .1) (refl, refl)
 

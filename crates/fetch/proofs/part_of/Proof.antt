@@ -8,15 +8,12 @@ use Rattle.fetch.proofs.part_of.Lts as lts
 use Rattle.fetch.proofs.field_of.Reads as field-of-reads
 use Rattle.fetch.proofs.part.Reads as part-reads
 
--- src/lib.rt:351:13
 field-of-requires : tie.Need-field-of-requires
 field-of-requires c κs = search needs
 
--- src/lib.rt:351:5
 part-requires : tie.Need-part-requires
 part-requires c κs = search needs
 
--- src/lib.rt:347:1
 returns : tie.Need-returns
 returns c = (rw (← c .before .field-of .ensures .0) (c .part .ensures .0), rw (← c .before .field-of .ensures .0) (c .part .ensures .1))
 

@@ -5,20 +5,16 @@ use Rattle.fetch.proofs.past_field.Tie as tie
 use Rattle.fetch.proofs.past_field.Reads as reads
 use Rattle.fetch.proofs.past_field.Lts as lts
 
--- src/lib.rt:95:13
 enum-known-f : tie.Need-enum-known-f
 enum-known-f c = search needs
 
--- src/lib.rt:97:24
 enum-known-f-2 : tie.Need-enum-known-f-2
 enum-known-f-2 c = search needs
 
--- src/lib.rt:86:1
 -- fill: 41cc6ba9
 returns : tie.Need-returns
 returns c = simp (c .before .f .given .1)
 
--- src/lib.rt:86:1
 -- fill: 530dd00f
 returns-2 : tie.Need-returns-2
 returns-2 c = simp (c .before .f2 .given .1)

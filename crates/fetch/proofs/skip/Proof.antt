@@ -22,27 +22,21 @@ Inv-loop block from kind people count left₀ at₀ left at =
 abbrev μ-loop : tie.MeasureT-loop
 μ-loop block from kind people count left₀ at₀ left at = left
 
--- src/lib.rt:142:5
 loop-holds : tie.Need-loop-holds Inv-loop μ-loop
 loop-holds c = search needs
 
--- src/lib.rt:143:28
 field-at-requires : tie.Need-field-at-requires Inv-loop μ-loop
 field-at-requires c κs = search needs
 
--- src/lib.rt:143:13
 past-field-requires : tie.Need-past-field-requires Inv-loop μ-loop
 past-field-requires c κs = search needs
 
--- src/lib.rt:144:22
 enum-known-p : tie.Need-enum-known-p Inv-loop μ-loop
 enum-known-p c = search needs
 
--- src/lib.rt:145:13
 enum-told : tie.Need-enum-told Inv-loop μ-loop
 enum-told c = search needs
 
--- src/lib.rt:145:13
 returns : tie.Need-returns Inv-loop μ-loop
 unfolding passing
 returns c =
@@ -58,15 +52,12 @@ returns c =
       rw (c .enum-told .given .1) tt,
     )
 
--- src/lib.rt:148:9
 sub-left : tie.Need-sub-left Inv-loop μ-loop
 sub-left c = search needs
 
--- src/lib.rt:142:5
 loop-less : tie.Need-loop-less Inv-loop μ-loop
 loop-less c = search needs
 
--- src/lib.rt:142:5
 loop-again : tie.Need-loop-again Inv-loop μ-loop
 unfolding passing
 loop-again c =
@@ -87,7 +78,6 @@ loop-again c =
       omega (arith, i),
     )
 
--- src/lib.rt:136:1
 returns-2 : tie.Need-returns-2 Inv-loop μ-loop
 unfolding past times
 returns-2 c =

@@ -5,20 +5,16 @@ use Rattle.fetch.proofs.step_refused.Tie as tie
 use Rattle.fetch.proofs.step_refused.Reads as reads
 use Rattle.fetch.proofs.step_refused.Lts as lts
 
--- src/lib.rt:77:39
 enum-told : tie.Need-enum-told
 enum-told c = search needs
 
--- src/lib.rt:81:23
 enum-known-p : tie.Need-enum-known-p
 enum-known-p c = search needs
 
--- src/lib.rt:73:1
 -- fill: 1f7f2c54
 returns : tie.Need-returns
 returns c = simp (c .enum-told .given .1)
 
--- src/lib.rt:73:1
 -- fill: 54d6a69d
 returns-2 : tie.Need-returns-2
 returns-2 c = simp (c .before .p .given .1)

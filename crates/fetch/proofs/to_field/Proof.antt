@@ -11,28 +11,22 @@ use Rattle.fetch.proofs.to_field.Lts as lts
 use Rattle.fetch.proofs.skip.Reads as skip-reads
 use Rattle.fetch.proofs.to_first.Reads as to-first-reads
 
--- src/lib.rt:196:9
 to-first-requires : tie.Need-to-first-requires
 to-first-requires c κs = search needs
 
--- src/lib.rt:197:18
 enum-known-p : tie.Need-enum-known-p
 enum-known-p c = search needs
 
--- src/lib.rt:198:9
 enum-told : tie.Need-enum-told
 enum-told c = search needs
 
--- src/lib.rt:198:9
 returns : tie.Need-returns
 unfolding toField
 returns c = (simp (← c .before .before .to-first .ensures .0, c .enum-told .given .1), rw (c .enum-told .given .1) tt)
 
--- src/lib.rt:200:5
 skip-requires : tie.Need-skip-requires
 skip-requires c κs = search needs
 
--- src/lib.rt:192:1
 returns-2 : tie.Need-returns-2
 unfolding toField
 returns-2 c =

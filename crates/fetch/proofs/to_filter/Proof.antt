@@ -10,28 +10,22 @@ use Rattle.fetch.proofs.to_filter.Reads as reads
 use Rattle.fetch.proofs.to_filter.Lts as lts
 use Rattle.fetch.proofs.skip.Reads as skip-reads
 
--- src/lib.rt:158:9
 skip-requires : tie.Need-skip-requires
 skip-requires c κs = search needs
 
--- src/lib.rt:159:18
 enum-known-p : tie.Need-enum-known-p
 enum-known-p c = search needs
 
--- src/lib.rt:160:9
 enum-told : tie.Need-enum-told
 enum-told c = search needs
 
--- src/lib.rt:160:9
 returns : tie.Need-returns
 unfolding toFilter
 returns c = (simp (← c .before .before .skip .ensures .0, c .enum-told .given .1), rw (c .enum-told .given .1) tt)
 
--- src/lib.rt:162:5
 skip-requires-2 : tie.Need-skip-requires-2
 skip-requires-2 c κs = search needs
 
--- src/lib.rt:154:1
 returns-2 : tie.Need-returns-2
 unfolding toFilter
 returns-2 c =

@@ -11,28 +11,22 @@ use Rattle.fetch.proofs.to_info.Lts as lts
 use Rattle.fetch.proofs.skip.Reads as skip-reads
 use Rattle.fetch.proofs.to_filter.Reads as to-filter-reads
 
--- src/lib.rt:170:9
 to-filter-requires : tie.Need-to-filter-requires
 to-filter-requires c κs = search needs
 
--- src/lib.rt:171:18
 enum-known-p : tie.Need-enum-known-p
 enum-known-p c = search needs
 
--- src/lib.rt:172:9
 enum-told : tie.Need-enum-told
 enum-told c = search needs
 
--- src/lib.rt:172:9
 returns : tie.Need-returns
 unfolding toInfo
 returns c = (simp (← c .before .before .to-filter .ensures .0, c .enum-told .given .1), rw (c .enum-told .given .1) tt)
 
--- src/lib.rt:174:5
 skip-requires : tie.Need-skip-requires
 skip-requires c κs = search needs
 
--- src/lib.rt:166:1
 returns-2 : tie.Need-returns-2
 unfolding toInfo
 returns-2 c =

@@ -8,15 +8,12 @@ use Rattle.fetch.proofs.up_to.Tie as tie
 use Rattle.fetch.proofs.up_to.Reads as reads
 use Rattle.fetch.proofs.up_to.Lts as lts
 
--- src/lib.rt:284:9
 returns : tie.Need-returns
 returns c = (sym (take-all (c .before .args .end) (c .before .args .s .now) (omega arith)), refl)
 
--- src/lib.rt:286:5
 slice-aggregate-result : tie.Need-slice-aggregate-result
 slice-aggregate-result c = sym (length-take-le _ _ (omega arith))
 
--- src/lib.rt:279:1
 returns-2 : tie.Need-returns-2
 returns-2 c = search needs
 

@@ -11,15 +11,12 @@ use Rattle.fetch.proofs.value_alone.Lts as lts
 use Rattle.fetch.proofs.value_field.Reads as value-field-reads
 use Rattle.values.proofs.value_at.Reads as value-at-reads
 
--- src/lib.rt:106:20
 value-at-requires : tie.Need-value-at-requires
 value-at-requires c κs = search needs
 
--- src/lib.rt:106:5
 value-field-requires : tie.Need-value-field-requires
 value-field-requires c κs = search needs
 
--- src/lib.rt:102:1
 returns : tie.Need-returns
 unfolding alone
 returns c =

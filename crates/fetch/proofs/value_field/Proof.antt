@@ -5,20 +5,16 @@ use Rattle.fetch.proofs.value_field.Tie as tie
 use Rattle.fetch.proofs.value_field.Reads as reads
 use Rattle.fetch.proofs.value_field.Lts as lts
 
--- src/lib.rt:44:13
 enum-known-v : tie.Need-enum-known-v
 enum-known-v c = search needs
 
--- src/lib.rt:55:24
 enum-known-v-2 : tie.Need-enum-known-v-2
 enum-known-v-2 c = search needs
 
--- src/lib.rt:39:1
 -- fill: 47293c73
 returns : tie.Need-returns
 returns c = simp (c .before .v .given .1)
 
--- src/lib.rt:39:1
 -- fill: 518da703
 returns-2 : tie.Need-returns-2
 returns-2 c = simp (c .before .v2 .given .1)

@@ -8,37 +8,29 @@ use Rattle.fixed.proofs.blocks_of.Reads as reads
 use Rattle.fixed.proofs.blocks_of.Lts as lts
 use Rattle.fixed.proofs.field_at.Reads as field-at-reads
 
--- src/lib.rt:67:9
 -- fill: 2cc5412d
 returns : tie.Need-returns
 unfolding blocks
 returns c = (simp (lt-ltb _ _ (c .if1 .taken)), search needs)
 
--- src/lib.rt:72:22
 field-at-requires : tie.Need-field-at-requires
 field-at-requires c κs = search needs
 
--- src/lib.rt:72:22
 cast-border : tie.Need-cast-border
 cast-border c = search needs
 
--- src/lib.rt:72:18
 add-border : tie.Need-add-border
 add-border c = search needs
 
--- src/lib.rt:73:27
 field-at-requires-2 : tie.Need-field-at-requires-2
 field-at-requires-2 c κs = search needs
 
--- src/lib.rt:73:27
 cast-length : tie.Need-cast-length
 cast-length c = search needs
 
--- src/lib.rt:73:18
 add-length : tie.Need-add-length
 add-length c = search needs
 
--- src/lib.rt:75:9
 -- fill: c45ada62
 returns-2 : tie.Need-returns-2
 unfolding blocks
@@ -52,7 +44,6 @@ returns-2 c = (
   search needs,
 )
 
--- src/lib.rt:81:9
 -- fill: 0116a01a
 returns-3 : tie.Need-returns-3
 unfolding blocks
@@ -67,7 +58,6 @@ returns-3 c = (
   search needs,
 )
 
--- src/lib.rt:87:9
 -- fill: 8c663d36
 returns-4 : tie.Need-returns-4
 unfolding blocks
@@ -83,7 +73,6 @@ returns-4 c = (
   search needs,
 )
 
--- src/lib.rt:62:1
 -- fill: dd7580d3
 returns-5 : tie.Need-returns-5
 unfolding blocks

@@ -5,20 +5,16 @@ use Rattle.fixed.proofs.blocks_refusal.Tie as tie
 use Rattle.fixed.proofs.blocks_refusal.Reads as reads
 use Rattle.fixed.proofs.blocks_refusal.Lts as lts
 
--- src/lib.rt:103:14
 enum-told : tie.Need-enum-told
 enum-told c = search needs
 
--- src/lib.rt:107:25
 enum-known-b : tie.Need-enum-known-b
 enum-known-b c = search needs
 
--- src/lib.rt:96:1
 -- fill: 1f7f2c54
 returns : tie.Need-returns
 returns c = simp (c .enum-told .given .1)
 
--- src/lib.rt:96:1
 returns-2 : tie.Need-returns-2
 returns-2 c = search needs
 

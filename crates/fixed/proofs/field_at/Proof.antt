@@ -11,11 +11,9 @@ use Rattle.fixed.proofs.field_at.Reads as reads
 use Rattle.fixed.proofs.field_at.Lts as lts
 use Rattle.words.proofs.word_at.Reads as word-at-reads
 
--- src/lib.rt:58:5
 word-at-requires : tie.Need-word-at-requires
 word-at-requires c κs = search needs
 
--- src/lib.rt:55:1
 returns : tie.Need-returns
 unfolding field
 returns c = c .word-at .ensures ∙ number-part 4 (drop (c .before .before .args .at) (c .before .before .args .s .now)) (omega arith)

@@ -11,34 +11,27 @@ use Rattle.fixed.proofs.blocks_refusal.Reads as blocks-refusal-reads
 use Rattle.fixed.proofs.site_at.Reads as site-at-reads
 use Rattle.fixed.proofs.wrong_at.Reads as wrong-at-reads
 
--- src/lib.rt:206:9
 blocks-of-requires : tie.Need-blocks-of-requires
 blocks-of-requires c κs = search needs
 
--- src/lib.rt:207:24
 enum-known-b : tie.Need-enum-known-b
 enum-known-b c = search needs
 
--- src/lib.rt:208:31
 enum-told : tie.Need-enum-told
 enum-told c = search needs
 
--- src/lib.rt:208:31
 blocks-refusal-requires : tie.Need-blocks-refusal-requires
 blocks-refusal-requires c κs = search needs
 
--- src/lib.rt:208:9
 -- fill: ee08689e
 returns : tie.Need-returns
 unfolding fixed
 returns c =
     (simp (← c .before .before .before .blocks-of .ensures .0, c .before .enum-told .given .1, c .blocks-refusal .ensures), search needs)
 
--- src/lib.rt:210:9
 wrong-at-requires : tie.Need-wrong-at-requires
 wrong-at-requires c κs = search needs
 
--- src/lib.rt:212:9
 -- fill: 2e2c7b6d
 returns-2 : tie.Need-returns-2
 unfolding fixed
@@ -52,11 +45,9 @@ returns-2 c = (
   search needs,
 )
 
--- src/lib.rt:217:17
 site-at-requires : tie.Need-site-at-requires
 site-at-requires c κs = search needs
 
--- src/lib.rt:202:1
 -- fill: 16c47921
 returns-3 : tie.Need-returns-3
 unfolding fixed siteAt

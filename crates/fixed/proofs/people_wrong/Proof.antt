@@ -6,19 +6,16 @@ use Rattle.fixed.proofs.people_wrong.Tie as tie
 use Rattle.fixed.proofs.people_wrong.Reads as reads
 use Rattle.fixed.proofs.people_wrong.Lts as lts
 
--- src/lib.rt:137:13
 -- fill: 63cd3d6d
 returns : tie.Need-returns
 unfolding peopleWrong
 returns c = simp (eq-eqb _ _ (c .before .if1 .taken), eq-eqb _ _ (c .if2 .taken))
 
--- src/lib.rt:139:9
 -- fill: 3697bb92
 returns-2 : tie.Need-returns-2
 unfolding peopleWrong
 returns-2 c = simp (eq-eqb _ _ (c .before .if1 .taken), ne-eqb _ _ (c .if2 .left))
 
--- src/lib.rt:132:1
 -- fill: 286c95e6
 returns-3 : tie.Need-returns-3
 unfolding peopleWrong

@@ -6,13 +6,11 @@ use Rattle.fixed.proofs.pos_wrong.Tie as tie
 use Rattle.fixed.proofs.pos_wrong.Reads as reads
 use Rattle.fixed.proofs.pos_wrong.Lts as lts
 
--- src/lib.rt:126:9
 -- fill: 88b43f0c
 returns : tie.Need-returns
 unfolding posWrong
 returns c = simp (le-leb _ _ (c .if1 .taken))
 
--- src/lib.rt:122:1
 -- fill: 18f86f45
 returns-2 : tie.Need-returns-2
 unfolding posWrong

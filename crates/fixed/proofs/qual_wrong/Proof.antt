@@ -6,13 +6,11 @@ use Rattle.fixed.proofs.qual_wrong.Tie as tie
 use Rattle.fixed.proofs.qual_wrong.Reads as reads
 use Rattle.fixed.proofs.qual_wrong.Lts as lts
 
--- src/lib.rt:149:9
 -- fill: c6b21389
 returns : tie.Need-returns
 unfolding qualWrong
 returns c = simp (lt-ltb _ _ (c .if1 .taken))
 
--- src/lib.rt:145:1
 -- fill: 5676c1b0
 returns-2 : tie.Need-returns-2
 unfolding qualWrong

@@ -7,43 +7,33 @@ use Rattle.fixed.proofs.site_at.Reads as reads
 use Rattle.fixed.proofs.site_at.Lts as lts
 use Rattle.fixed.proofs.field_at.Reads as field-at-reads
 
--- src/lib.rt:185:9
 field-at-requires : tie.Need-field-at-requires
 field-at-requires c κs = search needs
 
--- src/lib.rt:186:9
 field-at-requires-2 : tie.Need-field-at-requires-2
 field-at-requires-2 c κs = search needs
 
--- src/lib.rt:190:16
 field-at-requires-3 : tie.Need-field-at-requires-3
 field-at-requires-3 c κs = search needs
 
--- src/lib.rt:191:14
 field-at-requires-4 : tie.Need-field-at-requires-4
 field-at-requires-4 c κs = search needs
 
--- src/lib.rt:192:15
 field-at-requires-5 : tie.Need-field-at-requires-5
 field-at-requires-5 c κs = search needs
 
--- src/lib.rt:193:15
 field-at-requires-6 : tie.Need-field-at-requires-6
 field-at-requires-6 c κs = search needs
 
--- src/lib.rt:194:18
 cast-t11 : tie.Need-cast-t11
 cast-t11 c = search needs
 
--- src/lib.rt:195:16
 cast-t13 : tie.Need-cast-t13
 cast-t13 c = search needs
 
--- src/lib.rt:196:18
 cast-t15 : tie.Need-cast-t15
 cast-t15 c = search needs
 
--- src/lib.rt:182:1
 -- fill: 9e6c73a0
 returns : tie.Need-returns
 unfolding siteAt

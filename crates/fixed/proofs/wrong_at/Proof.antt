@@ -12,30 +12,24 @@ use Rattle.fixed.proofs.pos_wrong.Reads as pos-wrong-reads
 use Rattle.fixed.proofs.qual_wrong.Reads as qual-wrong-reads
 use Rattle.words.proofs.is_outside.Reads as is-outside-reads
 
--- src/lib.rt:159:41
 field-at-requires : tie.Need-field-at-requires
 field-at-requires c κs = search needs
 
--- src/lib.rt:159:8
 is-outside-requires : tie.Need-is-outside-requires
 is-outside-requires c κs = search needs
 
--- src/lib.rt:160:9
 -- fill: 750c65fb
 returns : tie.Need-returns
 unfolding wrongAt
 returns c =
     simp (← c .before .before .field-at .ensures, ← c .before .is-outside .ensures, c .if1 .taken)
 
--- src/lib.rt:162:18
 field-at-requires-2 : tie.Need-field-at-requires-2
 field-at-requires-2 c κs = search needs
 
--- src/lib.rt:162:8
 pos-wrong-requires : tie.Need-pos-wrong-requires
 pos-wrong-requires c κs = search needs
 
--- src/lib.rt:163:9
 -- fill: e93babc1
 returns-2 : tie.Need-returns-2
 unfolding wrongAt
@@ -49,11 +43,9 @@ returns-2 c =
       c .if2 .taken,
     )
 
--- src/lib.rt:165:22
 field-at-requires-3 : tie.Need-field-at-requires-3
 field-at-requires-3 c κs = search needs
 
--- src/lib.rt:166:9
 -- fill: 33df0b89
 returns-3 : tie.Need-returns-3
 unfolding wrongAt
@@ -69,15 +61,12 @@ returns-3 c =
       le-leb _ _ (c .if3 .taken),
     )
 
--- src/lib.rt:168:19
 field-at-requires-4 : tie.Need-field-at-requires-4
 field-at-requires-4 c κs = search needs
 
--- src/lib.rt:168:8
 qual-wrong-requires : tie.Need-qual-wrong-requires
 qual-wrong-requires c κs = search needs
 
--- src/lib.rt:169:9
 -- fill: 6d275883
 returns-4 : tie.Need-returns-4
 unfolding wrongAt
@@ -96,11 +85,9 @@ returns-4 c =
       c .if4 .taken,
     )
 
--- src/lib.rt:171:8
 field-at-requires-5 : tie.Need-field-at-requires-5
 field-at-requires-5 c κs = search needs
 
--- src/lib.rt:172:9
 -- fill: df2a8e01
 returns-5 : tie.Need-returns-5
 unfolding wrongAt
@@ -121,15 +108,12 @@ returns-5 c =
       eq-eqb _ _ (c .if5 .taken),
     )
 
--- src/lib.rt:174:9
 field-at-requires-6 : tie.Need-field-at-requires-6
 field-at-requires-6 c κs = search needs
 
--- src/lib.rt:175:8
 people-wrong-requires : tie.Need-people-wrong-requires
 people-wrong-requires c κs = search needs
 
--- src/lib.rt:176:9
 -- fill: 7e954368
 returns-6 : tie.Need-returns-6
 unfolding wrongAt
@@ -153,7 +137,6 @@ returns-6 c =
       c .if6 .taken,
     )
 
--- src/lib.rt:156:1
 -- fill: 10a67d59
 returns-7 : tie.Need-returns-7
 unfolding wrongAt

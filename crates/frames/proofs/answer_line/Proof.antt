@@ -16,58 +16,46 @@ use Rattle.frames.proofs.put_bad.Reads as put-bad-reads
 use Rattle.frames.proofs.put_record.Reads as put-record-reads
 use Rattle.hexadecimal.proofs.decode.Reads as decode-reads
 
--- src/lib.rt:142:9
 returns : tie.Need-returns
 unfolding answer answered decoded
 returns c =
     let h = lt-ltb _ _ (c .if1 .taken) in
     (rw h, (tt, (rw h, rw h)))
 
--- src/lib.rt:144:9
 decode-requires : tie.Need-decode-requires
 decode-requires c κs = search needs
 
--- src/lib.rt:146:22
 enum-known-f : tie.Need-enum-known-f
 enum-known-f c = search needs
 
--- src/lib.rt:146:57
 slice-reshare-prefix-put-record : tie.Need-slice-reshare-prefix-put-record
 slice-reshare-prefix-put-record c =
     let i = rw (c .before .before .f .given .1) at (c .before .before .before .before .before .before .decode .ensures .1 .0) in
     omega (arith, i, c .before .before .before .before .before .before .decode .kept .1 .0)
 
--- src/lib.rt:146:57
 slice-aggregate-put-record : tie.Need-slice-aggregate-put-record
 slice-aggregate-put-record c =
     let i = rw (c .before .before .before .f .given .1) at (c .before .before .before .before .before .before .before .decode .ensures .1 .0) in
     sym (length-take-le _ _ (omega (arith, i, c .before .before .before .before .before .before .before .decode .kept .1 .0)))
 
--- src/lib.rt:146:41
 put-record-requires : tie.Need-put-record-requires
 put-record-requires c κs = search needs
 
--- src/lib.rt:147:44
 enum-told : tie.Need-enum-told
 enum-told c = search needs
 
--- src/lib.rt:147:36
 put-bad-requires : tie.Need-put-bad-requires
 put-bad-requires c κs = search needs
 
--- src/lib.rt:148:26
 enum-told-2 : tie.Need-enum-told-2
 enum-told-2 c = search needs
 
--- src/lib.rt:135:1
 same-length : tie.Need-same-length
 same-length c = search needs
 
--- src/lib.rt:135:1
 same-length-2 : tie.Need-same-length-2
 same-length-2 c = search needs
 
--- src/lib.rt:135:1
 returns-2 : tie.Need-returns-2
 unfolding answer answered decoded
 returns-2 c =
@@ -82,15 +70,12 @@ returns-2 c =
       (omega (arith, p .1 .0, c .before .before .before .before .before .before .before .before .before .before .before .before .if1 .left), (rw (h, frame-fits _ n (frameOf (a .line .now)) _ _ k, e) (p .1 .1), rw h w)),
     )
 
--- src/lib.rt:135:1
 same-length-3 : tie.Need-same-length-3
 same-length-3 c = search needs
 
--- src/lib.rt:135:1
 same-length-4 : tie.Need-same-length-4
 same-length-4 c = search needs
 
--- src/lib.rt:135:1
 returns-3 : tie.Need-returns-3
 unfolding answer answered decoded
 returns-3 c =
@@ -104,11 +89,9 @@ returns-3 c =
       (omega (arith, p .0, c .before .before .before .before .before .before .before .before .before .before .if1 .left), (rw (h, e, z) (p .1), rw h (c .before .before .before .before .before .before .before .before .decode .ensures .1 .1))),
     )
 
--- src/lib.rt:135:1
 same-length-5 : tie.Need-same-length-5
 same-length-5 c = search needs
 
--- src/lib.rt:135:1
 returns-4 : tie.Need-returns-4
 unfolding answer answered decoded
 returns-4 c =

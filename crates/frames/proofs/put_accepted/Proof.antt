@@ -13,106 +13,83 @@ use Rattle.frames.proofs.put_accepted.Lts as lts
 use Rattle.frames.proofs.put_line.Reads as put-line-reads
 use Rattle.tally.proofs.calls_of.Reads as calls-of-reads
 
--- src/lib.rt:95:13
 cast-t14 : tie.Need-cast-t14
 cast-t14 c = search needs
 
--- src/lib.rt:96:13
 cast-t15 : tie.Need-cast-t15
 cast-t15 c = search needs
 
--- src/lib.rt:97:13
 cast-t16 : tie.Need-cast-t16
 cast-t16 c = search needs
 
--- src/lib.rt:98:13
 cast-t17 : tie.Need-cast-t17
 cast-t17 c = search needs
 
--- src/lib.rt:101:42
 slice-aggregate-put-line : tie.Need-slice-aggregate-put-line
 slice-aggregate-put-line c = search needs
 
--- src/lib.rt:101:52
 array-share-prefix-none : tie.Need-array-share-prefix-none
 array-share-prefix-none c = search needs
 
--- src/lib.rt:101:52
 slice-aggregate-put-line-2 : tie.Need-slice-aggregate-put-line-2
 slice-aggregate-put-line-2 c = search needs
 
--- src/lib.rt:101:9
 put-line-requires : tie.Need-put-line-requires
 put-line-requires c κs = search needs
 
--- src/lib.rt:101:9
 same-length : tie.Need-same-length
 same-length c = search needs
 
--- src/lib.rt:101:9
 returns : tie.Need-returns
 returns c =
     let a = c .before .before .before .before .before .before .before .before .before .before .before .before .args in
     rw (accepted-many (a .site) (a .gt) (a .bytes .now) (c .before .before .before .before .before .before .before .before .before .if1 .taken)) (c .before .before .put-line .ensures)
 
--- src/lib.rt:103:9
 calls-of-requires : tie.Need-calls-of-requires
 calls-of-requires c κs = search needs
 
--- src/lib.rt:107:9
 cast-t25 : tie.Need-cast-t25
 cast-t25 c = search needs
 
--- src/lib.rt:108:9
 cast-t26 : tie.Need-cast-t26
 cast-t26 c = search needs
 
--- src/lib.rt:109:9
 cast-t27 : tie.Need-cast-t27
 cast-t27 c = search needs
 
--- src/lib.rt:110:9
 cast-t28 : tie.Need-cast-t28
 cast-t28 c = search needs
 
--- src/lib.rt:113:13
 cast-n : tie.Need-cast-n
 cast-n c = search needs
 
--- src/lib.rt:113:13
 add-n : tie.Need-add-n
 add-n c = search needs
 
--- src/lib.rt:114:31
 slice-aggregate-put-line-3 : tie.Need-slice-aggregate-put-line-3
 slice-aggregate-put-line-3 c = search needs
 
--- src/lib.rt:114:41
 array-share-prefix-counts : tie.Need-array-share-prefix-counts
 array-share-prefix-counts c =
     let a = c .before .before .before .before .before .before .before .before .before .before .args in
     let k : length (c .before .before .before .before .before .before .calls-of .result .counts) ≡ 65 = rw (c .before .before .before .before .before .before .calls-of .ensures) (callsOf-length (a .gt) (a .site .people) (a .bytes .now)) in
     omega (arith, k, c .before .before .before .before .before .before .before .if1 .left)
 
--- src/lib.rt:114:41
 slice-aggregate-put-line-4 : tie.Need-slice-aggregate-put-line-4
 slice-aggregate-put-line-4 c =
     let a = c .before .before .before .before .before .before .before .before .before .before .before .args in
     let k : length (c .before .before .before .before .before .before .before .calls-of .result .counts) ≡ 65 = rw (c .before .before .before .before .before .before .before .calls-of .ensures) (callsOf-length (a .gt) (a .site .people) (a .bytes .now)) in
     sym (length-take-le _ _ (omega (arith, k, c .before .before .before .before .before .before .before .before .if1 .left)))
 
--- src/lib.rt:114:5
 put-line-requires-2 : tie.Need-put-line-requires-2
 put-line-requires-2 c κs =
     let a = c .before .before .before .before .before .before .before .before .before .before .before .args in
     let k : length (c .before .before .before .before .before .before .before .calls-of .result .counts) ≡ 65 = rw (c .before .before .before .before .before .before .before .calls-of .ensures) (callsOf-length (a .gt) (a .site .people) (a .bytes .now)) in
     (rw length-take (omega (arith, k, c .before .before .before .before .before .before .before .before .if1 .left)), c .before .before .before .before .before .before .before .before .before .before .before .pre)
 
--- src/lib.rt:85:1
 same-length-2 : tie.Need-same-length-2
 same-length-2 c = search needs
 
--- src/lib.rt:85:1
 returns-2 : tie.Need-returns-2
 returns-2 c =
     let a = c .before .before .before .before .before .before .before .before .before .before .before .before .before .before .args in

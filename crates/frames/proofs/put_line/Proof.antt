@@ -12,19 +12,15 @@ use Rattle.frames.proofs.put_line.Reads as reads
 use Rattle.frames.proofs.put_line.Lts as lts
 use Rattle.frames.proofs.put_numbers.Reads as put-numbers-reads
 
--- src/lib.rt:39:5
 slice-write-out : tie.Need-slice-write-out
 slice-write-out c = search needs
 
--- src/lib.rt:40:5
 slice-write-out-2 : tie.Need-slice-write-out-2
 slice-write-out-2 c = simp length-set (omega arith)
 
--- src/lib.rt:41:9
 put-numbers-requires : tie.Need-put-numbers-requires
 put-numbers-requires c κs = simp length-set (omega arith)
 
--- src/lib.rt:42:9
 put-numbers-requires-2 : tie.Need-put-numbers-requires-2
 put-numbers-requires-2 c κs =
     let a = c .before .before .before .before .before .before .before .before .args in
@@ -34,7 +30,6 @@ put-numbers-requires-2 c κs =
     let k : length (c .before .before .before .put-numbers .last .0) ≡ length (a .out .now) = rw (e, length-sets) g in
     rw k (omega (arith, c .before .before .before .put-numbers .ensures .1 .0, c .before .before .before .before .before .before .before .before .pre))
 
--- src/lib.rt:43:5
 slice-write-out-3 : tie.Need-slice-write-out-3
 slice-write-out-3 c =
     let a = c .before .before .before .before .before .before .before .before .before .before .before .args in
@@ -46,11 +41,9 @@ slice-write-out-3 c =
     let m : length (c .before .before .put-numbers2 .last .0) ≡ length (a .out .now) = rw (d, length-sets) k in
     rw m (omega (arith, c .before .before .before .before .before .before .put-numbers .ensures .1 .0, c .before .before .put-numbers2 .ensures .1 .0, c .before .before .before .before .before .before .before .before .before .before .before .pre))
 
--- src/lib.rt:44:5
 add-result : tie.Need-add-result
 add-result c = search needs
 
--- src/lib.rt:33:1
 same-length : tie.Need-same-length
 same-length c =
     let a = c .before .before .before .before .before .before .before .before .before .before .before .args in
@@ -62,7 +55,6 @@ same-length c =
     let m : length (c .before .before .put-numbers2 .last .0) ≡ length (a .out .now) = rw (d, length-sets) k in
     rw length-set m
 
--- src/lib.rt:33:1
 returns : tie.Need-returns
 returns c =
     let a = c .before .before .before .before .before .before .before .before .before .before .before .args in

@@ -29,35 +29,27 @@ Inv-loop out₀ from numbers at₀ i₀ out at i =
 abbrev μ-loop : tie.MeasureT-loop
 μ-loop out₀ from numbers at₀ i₀ out at i = length numbers - i
 
--- src/lib.rt:19:5
 loop-holds : tie.Need-loop-holds Inv-loop μ-loop
 loop-holds c = search needs
 
--- src/lib.rt:20:9
 slice-write-out : tie.Need-slice-write-out Inv-loop μ-loop
 slice-write-out c = search needs
 
--- src/lib.rt:21:43
 add-put-decimal : tie.Need-add-put-decimal Inv-loop μ-loop
 add-put-decimal c = search needs
 
--- src/lib.rt:21:51
 mul-put-decimal : tie.Need-mul-put-decimal Inv-loop μ-loop
 mul-put-decimal c = search needs
 
--- src/lib.rt:21:51
 shared-slice-read-put-decimal : tie.Need-shared-slice-read-put-decimal Inv-loop μ-loop
 shared-slice-read-put-decimal c = search needs
 
--- src/lib.rt:21:13
 put-decimal-requires : tie.Need-put-decimal-requires Inv-loop μ-loop
 put-decimal-requires c κs = search needs
 
--- src/lib.rt:22:21
 enum-known-p : tie.Need-enum-known-p Inv-loop μ-loop
 enum-known-p c = search needs
 
--- src/lib.rt:23:13
 enum-told : tie.Need-enum-told Inv-loop μ-loop
 enum-told c = search needs
 
@@ -79,23 +71,18 @@ no-room c =
     let z : _≡_ {A = ℕ} 0 1 = cc in
     omega arith
 
--- src/lib.rt:23:13
 same-length : tie.Need-same-length Inv-loop μ-loop
 same-length c = absurd (no-room c)
 
--- src/lib.rt:23:13
 returns : tie.Need-returns Inv-loop μ-loop
 returns c = absurd (no-room c)
 
--- src/lib.rt:26:9
 add-i : tie.Need-add-i Inv-loop μ-loop
 add-i c = search needs
 
--- src/lib.rt:19:5
 loop-less : tie.Need-loop-less Inv-loop μ-loop
 loop-less c = search needs
 
--- src/lib.rt:19:5
 loop-again : tie.Need-loop-again Inv-loop μ-loop
 loop-again c =
     let a = c .before .before .before .before .before .before .before .before .before .before .before .before .args in
@@ -121,11 +108,9 @@ loop-again c =
       omega (arith, h),
     )
 
--- src/lib.rt:11:1
 same-length-2 : tie.Need-same-length-2 Inv-loop μ-loop
 same-length-2 c = search needs
 
--- src/lib.rt:11:1
 returns-2 : tie.Need-returns-2 Inv-loop μ-loop
 unfolding spaced
 returns-2 c =

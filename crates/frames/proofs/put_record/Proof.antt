@@ -13,61 +13,48 @@ use Rattle.frames.proofs.put_refusal.Reads as put-refusal-reads
 use Rattle.record.proofs.read.Reads as read-reads
 use Rattle.record.proofs.reading_refusal.Reads as reading-refusal-reads
 
--- src/lib.rt:124:9
 read-requires : tie.Need-read-requires
 read-requires c κs = search needs
 
--- src/lib.rt:125:29
 enum-known-r : tie.Need-enum-known-r
 enum-known-r c = search needs
 
--- src/lib.rt:126:28
 enum-told : tie.Need-enum-told
 enum-told c = search needs
 
--- src/lib.rt:126:33
 reading-refusal-requires : tie.Need-reading-refusal-requires
 reading-refusal-requires c κs = search needs
 
--- src/lib.rt:126:9
 put-refusal-requires : tie.Need-put-refusal-requires
 put-refusal-requires c κs = search needs
 
--- src/lib.rt:126:9
 same-length : tie.Need-same-length
 same-length c = search needs
 
--- src/lib.rt:126:9
 returns : tie.Need-returns
 unfolding recordLine
 returns c =
     let e = rw (c .before .before .before .reading-refusal .ensures, c .before .before .before .before .before .enum-told .given .1) at (c .before .before .put-refusal .ensures) in
     simp (← c .before .before .before .before .before .before .before .read .ensures .0, c .before .before .before .before .before .enum-told .given .1) e
 
--- src/lib.rt:129:9
 put-bad-requires : tie.Need-put-bad-requires
 put-bad-requires c κs = search needs
 
--- src/lib.rt:129:9
 same-length-2 : tie.Need-same-length-2
 same-length-2 c = search needs
 
--- src/lib.rt:129:9
 returns-2 : tie.Need-returns-2
 unfolding recordLine
 returns-2 c =
     let e = c .before .before .put-bad .ensures in
     simp (← c .before .before .before .before .before .before .before .before .before .read .ensures .0, c .before .before .before .before .before .before .before .r .given .1, lt-ltb _ _ (c .before .before .before .before .if1 .taken)) (e .0, (omega (arith, e .0), e .1))
 
--- src/lib.rt:131:5
 put-accepted-requires : tie.Need-put-accepted-requires
 put-accepted-requires c κs = search needs
 
--- src/lib.rt:118:1
 same-length-3 : tie.Need-same-length-3
 same-length-3 c = search needs
 
--- src/lib.rt:118:1
 returns-3 : tie.Need-returns-3
 unfolding recordLine
 returns-3 c =

@@ -11,22 +11,18 @@ use Rattle.frames.proofs.say_bad.Reads as reads
 use Rattle.frames.proofs.say_bad.Lts as lts
 use Rattle.frames.proofs.put_bad.Reads as put-bad-reads
 
--- src/lib.rt:91:9
 returns : tie.Need-returns
 unfolding said saidIn
 returns c =
     let h = lt-ltb _ _ (c .if1 .taken) in
     (rw h, (tt, rw h))
 
--- src/lib.rt:93:18
 put-bad-requires : tie.Need-put-bad-requires
 put-bad-requires c κs = search needs
 
--- src/lib.rt:85:1
 same-length : tie.Need-same-length
 same-length c = search needs
 
--- src/lib.rt:85:1
 returns-2 : tie.Need-returns-2
 unfolding said saidIn
 returns-2 c =

@@ -11,22 +11,18 @@ use Rattle.frames.proofs.say_refusal.Reads as reads
 use Rattle.frames.proofs.say_refusal.Lts as lts
 use Rattle.frames.proofs.put_refusal.Reads as put-refusal-reads
 
--- src/lib.rt:103:9
 returns : tie.Need-returns
 unfolding said saidIn
 returns c =
     let h = lt-ltb _ _ (c .if1 .taken) in
     (rw h, (tt, rw h))
 
--- src/lib.rt:105:18
 put-refusal-requires : tie.Need-put-refusal-requires
 put-refusal-requires c κs = search needs
 
--- src/lib.rt:97:1
 same-length : tie.Need-same-length
 same-length c = search needs
 
--- src/lib.rt:97:1
 returns-2 : tie.Need-returns-2
 unfolding said saidIn
 returns-2 c =

@@ -20,25 +20,20 @@ Inv-loop few key i₀ i =
 abbrev μ-loop : tie.MeasureT-loop
 μ-loop few key i₀ i = i
 
--- src/lib.rt:104:5
 loop-holds : tie.Need-loop-holds Inv-loop μ-loop
 loop-holds c =
     let a = c .args in
     (ap (among (a .key)) (sym (take-length (a .few .now))), omega arith)
 
--- src/lib.rt:105:9
 sub-i : tie.Need-sub-i Inv-loop μ-loop
 sub-i c = search needs
 
--- src/lib.rt:106:12
 mul-if1 : tie.Need-mul-if1 Inv-loop μ-loop
 mul-if1 c = search needs
 
--- src/lib.rt:106:12
 shared-slice-read-if1 : tie.Need-shared-slice-read-if1 Inv-loop μ-loop
 shared-slice-read-if1 c = search needs
 
--- src/lib.rt:107:13
 returns : tie.Need-returns Inv-loop μ-loop
 unfolding among
 returns c =
@@ -46,11 +41,9 @@ returns c =
     let a = c .before .before .before .before .args in
     rw (l .inv .0, few-turn (a .few .now) (a .key) (l .i) (omega arith) (l .inv .1), eq-eqb _ _ (c .if1 .taken))
 
--- src/lib.rt:104:5
 loop-less : tie.Need-loop-less Inv-loop μ-loop
 loop-less c = search needs
 
--- src/lib.rt:104:5
 loop-again : tie.Need-loop-again Inv-loop μ-loop
 unfolding among
 loop-again c =
@@ -58,7 +51,6 @@ loop-again c =
     let a = c .before .before .before .before .args in
     (l .inv .0 ∙ rw (few-turn (a .few .now) (a .key) (l .i) (omega arith) (l .inv .1), ne-eqb _ _ (c .if1 .left)), omega arith)
 
--- src/lib.rt:100:1
 returns-2 : tie.Need-returns-2 Inv-loop μ-loop
 unfolding among
 returns-2 c =

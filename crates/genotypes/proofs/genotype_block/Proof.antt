@@ -31,76 +31,59 @@ Inv-loop block from alleles count strings people offset keys₀ seen₀ left₀ 
 abbrev μ-loop : tie.MeasureT-loop
 μ-loop block from alleles count strings people offset keys₀ seen₀ left₀ at₀ gt₀ keys seen left at gt = left
 
--- src/lib.rt:147:5
 loop-holds : tie.Need-loop-holds Inv-loop μ-loop
 loop-holds c = search needs
 
--- src/lib.rt:148:13
 key-at-requires : tie.Need-key-at-requires Inv-loop μ-loop
 key-at-requires c κs = search needs
 
--- src/lib.rt:149:28
 enum-known-k : tie.Need-enum-known-k Inv-loop μ-loop
 enum-known-k c = search needs
 
--- src/lib.rt:150:13
 enum-told : tie.Need-enum-told Inv-loop μ-loop
 enum-told c = search needs
 
--- src/lib.rt:150:13
 key-refused-requires : tie.Need-key-refused-requires Inv-loop μ-loop
 key-refused-requires c κs = search needs
 
--- src/lib.rt:150:13
 returns : tie.Need-returns Inv-loop μ-loop
 returns c =
     rw (c .before .before .before .before .before .loop .inv .0, formats-turn _ _ _ _ _ _ _ _ _ (c .before .before .before .before .loop-test .taken), ← c .before .before .before .key-at .ensures .0, c .before .enum-told .given .1, c .key-refused .ensures, c .before .enum-told .given .1)
 
--- src/lib.rt:152:24
 array-share-prefix-keys : tie.Need-array-share-prefix-keys Inv-loop μ-loop
 array-share-prefix-keys c = search needs
 
--- src/lib.rt:152:24
 slice-aggregate-is-repeated : tie.Need-slice-aggregate-is-repeated Inv-loop μ-loop
 slice-aggregate-is-repeated c =
     sym (length-take-le _ _ (omega arith))
 
--- src/lib.rt:152:12
 is-repeated-requires : tie.Need-is-repeated-requires Inv-loop μ-loop
 is-repeated-requires c κs = search needs
 
--- src/lib.rt:155:24
 add-t26 : tie.Need-add-t26 Inv-loop μ-loop
 add-t26 c =
     let i = rw (c .before .before .before .before .k .given .1) at (c .before .before .before .before .before .before .key-at .ensures .1) in
     omega (arith, i)
 
--- src/lib.rt:153:13
 returns-2 : tie.Need-returns-2 Inv-loop μ-loop
 returns-2 c =
     rw (c .before .before .before .before .before .before .before .before .loop .inv .0, formats-turn _ _ _ _ _ _ _ _ _ (c .before .before .before .before .before .before .before .loop-test .taken), ← c .before .before .before .before .before .before .key-at .ensures .0, c .before .before .before .before .k .given .1, ← c .before .is-repeated .ensures, c .if1 .taken)
 
--- src/lib.rt:158:54
 role-of-requires : tie.Need-role-of-requires Inv-loop μ-loop
 role-of-requires c κs = search needs
 
--- src/lib.rt:158:13
 sound-value-at-requires : tie.Need-sound-value-at-requires Inv-loop μ-loop
 sound-value-at-requires c κs = search needs
 
--- src/lib.rt:160:13
 enum-known-v : tie.Need-enum-known-v Inv-loop μ-loop
 enum-known-v c = search needs
 
--- src/lib.rt:166:13
 enum-told-2 : tie.Need-enum-told-2 Inv-loop μ-loop
 enum-told-2 c = search needs
 
--- src/lib.rt:166:13
 value-refused-requires : tie.Need-value-refused-requires Inv-loop μ-loop
 value-refused-requires c κs = search needs
 
--- src/lib.rt:166:13
 returns-3 : tie.Need-returns-3 Inv-loop μ-loop
 returns-3 c =
     let a = c .before .before .before .before .before .before .before .before .before .before .before .before .before .before .before .args in
@@ -119,31 +102,24 @@ returns-3 c =
       c .value-refused .ensures,
     ))
 
--- src/lib.rt:168:9
 gt-after-requires : tie.Need-gt-after-requires Inv-loop μ-loop
 gt-after-requires c κs = search needs
 
--- src/lib.rt:169:9
 mul-keys : tie.Need-mul-keys Inv-loop μ-loop
 mul-keys c = search needs
 
--- src/lib.rt:169:9
 array-write-keys : tie.Need-array-write-keys Inv-loop μ-loop
 array-write-keys c = search needs
 
--- src/lib.rt:170:9
 add-seen : tie.Need-add-seen Inv-loop μ-loop
 add-seen c = search needs
 
--- src/lib.rt:172:9
 sub-left : tie.Need-sub-left Inv-loop μ-loop
 sub-left c = search needs
 
--- src/lib.rt:147:5
 loop-less : tie.Need-loop-less Inv-loop μ-loop
 loop-less c = search needs
 
--- src/lib.rt:147:5
 loop-again : tie.Need-loop-again Inv-loop μ-loop
 loop-again c =
     let a = c .before .before .before .before .before .before .before .before .before .before .before .before .before .before .before .before .args in
@@ -161,14 +137,12 @@ loop-again c =
       simp length-set (l .inv .2),
     )
 
--- src/lib.rt:175:9
 returns-4 : tie.Need-returns-4 Inv-loop μ-loop
 returns-4 c =
     let l = c .before .before .loop in
     let z : l .left ≡ 0 = omega arith in
     rw (l .inv .0, z, formats-end, le-leb _ _ (c .if2 .taken))
 
--- src/lib.rt:132:1
 returns-5 : tie.Need-returns-5 Inv-loop μ-loop
 returns-5 c =
     let l = c .before .before .loop in

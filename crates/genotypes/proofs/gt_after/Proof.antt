@@ -6,13 +6,11 @@ use Rattle.genotypes.proofs.gt_after.Tie as tie
 use Rattle.genotypes.proofs.gt_after.Reads as reads
 use Rattle.genotypes.proofs.gt_after.Lts as lts
 
--- src/lib.rt:76:9
 -- fill: eaadfe61
 returns : tie.Need-returns
 unfolding gtNow
 returns c = simp (eq-eqb _ _ (c .if1 .taken))
 
--- src/lib.rt:72:1
 -- fill: 286c95e6
 returns-2 : tie.Need-returns-2
 unfolding gtNow

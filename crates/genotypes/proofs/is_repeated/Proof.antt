@@ -20,38 +20,30 @@ Inv-loop earlier key i₀ i =
 abbrev μ-loop : tie.MeasureT-loop
 μ-loop earlier key i₀ i = i
 
--- src/lib.rt:118:17
 sub-i : tie.Need-sub-i Inv-loop μ-loop
 sub-i c = search needs
 
--- src/lib.rt:119:17
 mul-few-have : tie.Need-mul-few-have Inv-loop μ-loop
 mul-few-have c = search needs
 
--- src/lib.rt:119:17
 sub-few-have : tie.Need-sub-few-have Inv-loop μ-loop
 sub-few-have c = search needs
 
--- src/lib.rt:119:17
 part-few-have-start : tie.Need-part-few-have-start Inv-loop μ-loop
 part-few-have-start c = search needs
 
--- src/lib.rt:119:17
 part-few-have-end : tie.Need-part-few-have-end Inv-loop μ-loop
 part-few-have-end c = search needs
 
--- src/lib.rt:119:8
 few-have-requires : tie.Need-few-have-requires Inv-loop μ-loop
 few-have-requires c κs = search needs
 
--- src/lib.rt:120:9
 returns : tie.Need-returns Inv-loop μ-loop
 returns c =
     let a = c .before .before .before .before .args in
     let n = length (a .earlier .now) in
     rw (nearest-of-all (a .earlier .now) (a .key) (n - n % 4) (omega arith), ← c .before .few-have .ensures, c .if1 .taken)
 
--- src/lib.rt:122:5
 loop-holds : tie.Need-loop-holds Inv-loop μ-loop
 loop-holds c =
     let a = c .before .before .before .before .args in
@@ -59,42 +51,33 @@ loop-holds c =
     let near = nearest-of-all (a .earlier .now) (a .key) (n - n % 4) (omega arith) in
     (near ∙ rw (← c .before .few-have .ensures, c .if1 .left), omega arith, omega arith)
 
--- src/lib.rt:124:32
 add-row-has : tie.Need-add-row-has Inv-loop μ-loop
 add-row-has c = search needs
 
--- src/lib.rt:124:20
 mul-row-has : tie.Need-mul-row-has Inv-loop μ-loop
 mul-row-has c = search needs
 
--- src/lib.rt:124:20
 sub-row-has : tie.Need-sub-row-has Inv-loop μ-loop
 sub-row-has c = search needs
 
--- src/lib.rt:124:20
 part-row-has-start : tie.Need-part-row-has-start Inv-loop μ-loop
 part-row-has-start c = search needs
 
--- src/lib.rt:124:20
 part-row-has-end : tie.Need-part-row-has-end Inv-loop μ-loop
 part-row-has-end c = search needs
 
--- src/lib.rt:124:12
 row-has-requires : tie.Need-row-has-requires Inv-loop μ-loop
 row-has-requires c κs = search needs
 
--- src/lib.rt:125:13
 returns-2 : tie.Need-returns-2 Inv-loop μ-loop
 returns-2 c =
     let l = c .before .before .before .before .loop in
     let a = c .before .before .before .before .before .before .before .before .before .args in
     rw (l .inv .0, nearest-row (a .earlier .now) (a .key) 4 (l .i) (omega arith), ← c .before .row-has .ensures, c .if2 .taken)
 
--- src/lib.rt:122:5
 loop-less : tie.Need-loop-less Inv-loop μ-loop
 loop-less c = search needs
 
--- src/lib.rt:122:5
 loop-again : tie.Need-loop-again Inv-loop μ-loop
 loop-again c =
     let l = c .before .before .before .before .loop in
@@ -105,7 +88,6 @@ loop-again c =
       omega arith,
     )
 
--- src/lib.rt:115:1
 returns-3 : tie.Need-returns-3 Inv-loop μ-loop
 unfolding among
 returns-3 c =

@@ -5,20 +5,16 @@ use Rattle.genotypes.proofs.key_refused.Tie as tie
 use Rattle.genotypes.proofs.key_refused.Reads as reads
 use Rattle.genotypes.proofs.key_refused.Lts as lts
 
--- src/lib.rt:33:63
 enum-told : tie.Need-enum-told
 enum-told c = search needs
 
--- src/lib.rt:38:26
 enum-known-k : tie.Need-enum-known-k
 enum-known-k c = search needs
 
--- src/lib.rt:29:1
 -- fill: 1f7f2c54
 returns : tie.Need-returns
 returns c = simp (c .enum-told .given .1)
 
--- src/lib.rt:29:1
 -- fill: af8e6a02
 returns-2 : tie.Need-returns-2
 returns-2 c = simp (c .before .k .given .1)

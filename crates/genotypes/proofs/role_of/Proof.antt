@@ -6,13 +6,11 @@ use Rattle.genotypes.proofs.role_of.Tie as tie
 use Rattle.genotypes.proofs.role_of.Reads as reads
 use Rattle.genotypes.proofs.role_of.Lts as lts
 
--- src/lib.rt:66:9
 -- fill: eaadfe61
 returns : tie.Need-returns
 unfolding roleOf
 returns c = simp (eq-eqb _ _ (c .if1 .taken))
 
--- src/lib.rt:62:1
 -- fill: 286c95e6
 returns-2 : tie.Need-returns-2
 unfolding roleOf

@@ -23,27 +23,21 @@ Inv-loop row key met₀ i₀ met i =
 abbrev μ-loop : tie.MeasureT-loop
 μ-loop row key met₀ i₀ met i = length row - i
 
--- src/lib.rt:90:5
 loop-holds : tie.Need-loop-holds Inv-loop μ-loop
 loop-holds c = search needs
 
--- src/lib.rt:91:12
 mul-if1 : tie.Need-mul-if1 Inv-loop μ-loop
 mul-if1 c = search needs
 
--- src/lib.rt:91:12
 shared-slice-read-if1 : tie.Need-shared-slice-read-if1 Inv-loop μ-loop
 shared-slice-read-if1 c = search needs
 
--- src/lib.rt:94:9
 add-i : tie.Need-add-i Inv-loop μ-loop
 add-i c = search needs
 
--- src/lib.rt:90:5
 loop-less : tie.Need-loop-less Inv-loop μ-loop
 loop-less c = search needs
 
--- src/lib.rt:90:5
 loop-again : tie.Need-loop-again Inv-loop μ-loop
 loop-again c =
     let l = c .before .before .before .loop in
@@ -53,7 +47,6 @@ loop-again c =
       omega arith,
     )
 
--- src/lib.rt:85:1
 returns : tie.Need-returns Inv-loop μ-loop
 unfolding among
 returns c =

@@ -5,20 +5,16 @@ use Rattle.genotypes.proofs.value_refused.Tie as tie
 use Rattle.genotypes.proofs.value_refused.Reads as reads
 use Rattle.genotypes.proofs.value_refused.Lts as lts
 
--- src/lib.rt:52:31
 enum-told : tie.Need-enum-told
 enum-told c = search needs
 
--- src/lib.rt:57:24
 enum-known-v : tie.Need-enum-known-v
 enum-known-v c = search needs
 
--- src/lib.rt:43:1
 -- fill: 1f7f2c54
 returns : tie.Need-returns
 returns c = simp (c .enum-told .given .1)
 
--- src/lib.rt:43:1
 -- fill: 47293c73
 returns-2 : tie.Need-returns-2
 returns-2 c = simp (c .before .v .given .1)

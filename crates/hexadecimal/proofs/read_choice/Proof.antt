@@ -13,21 +13,17 @@ use Rattle.hexadecimal.proofs.all_digits.Reads as all-digits-reads
 use Rattle.hexadecimal.proofs.characters.table.Reads as table-reads
 use Rattle.hexadecimal.proofs.store_people.Reads as store-people-reads
 
--- src/lib.rt:129:9
 returns : tie.Need-returns
 returns c =
     let e = choice-long (c .before .before .before .args .line .now) (c .if1 .taken) in
     (rw e, (tt, rw e))
 
--- src/lib.rt:132:21
 table-requires : tie.Need-table-requires
 table-requires c κs = search needs
 
--- src/lib.rt:133:12
 all-digits-requires : tie.Need-all-digits-requires
 all-digits-requires c κs = search needs
 
--- src/lib.rt:136:17
 returns-2 : tie.Need-returns-2
 returns-2 c =
     let d = sym (c .before .before .all-digits .ensures) ∙ c .before .if3 .taken in
@@ -35,16 +31,13 @@ returns-2 c =
     let h = lt-ltb _ _ (c .if4 .taken) in
     (rw (e, length-eights, h), (tt, rw (e, length-eights, h)))
 
--- src/lib.rt:138:13
 store-people-requires : tie.Need-store-people-requires
 store-people-requires c κs =
     (c .before .before .before .before .before .before .table .ensures, omega arith, omega arith, sym (c .before .before .before .before .all-digits .ensures) ∙ c .before .before .before .if3 .taken)
 
--- src/lib.rt:139:13
 same-length : tie.Need-same-length
 same-length c = search needs
 
--- src/lib.rt:139:13
 returns-3 : tie.Need-returns-3
 returns-3 c =
     let d = sym (c .before .before .before .before .before .before .before .all-digits .ensures) ∙ c .before .before .before .before .before .before .if3 .taken in
@@ -53,13 +46,11 @@ returns-3 c =
     let h = le-ltb _ _ room in
     (rw (e, length-eights, h), (room, rw (e, length-eights, h) (c .before .before .store-people .ensures)))
 
--- src/lib.rt:141:9
 returns-4 : tie.Need-returns-4
 returns-4 c =
     let e = choice-other _ (c .before .before .before .before .before .if1 .left) (c .before .before .before .before .if2 .taken) (sym (c .before .all-digits .ensures) ∙ c .if3 .left) in
     (rw e, (tt, rw e))
 
--- src/lib.rt:123:1
 returns-5 : tie.Need-returns-5
 returns-5 c =
     let e = choice-part (c .before .before .before .before .args .line .now) (c .before .if1 .left) (c .if2 .left) in

@@ -25,39 +25,30 @@ abbrev μ-loop : tie.MeasureT-loop
 μ-loop table line n choice₀ left₀ at₀ o₀ choice left at o =
     left
 
--- src/lib.rt:114:5
 loop-holds : tie.Need-loop-holds Inv-loop μ-loop
 loop-holds c = search needs
 
--- src/lib.rt:115:21
 number-at-requires : tie.Need-number-at-requires Inv-loop μ-loop
 number-at-requires c κs = search needs
 
--- src/lib.rt:115:9
 mul-choice : tie.Need-mul-choice Inv-loop μ-loop
 mul-choice c = search needs
 
--- src/lib.rt:115:9
 slice-write-choice : tie.Need-slice-write-choice Inv-loop μ-loop
 slice-write-choice c = search needs
 
--- src/lib.rt:116:9
 add-o : tie.Need-add-o Inv-loop μ-loop
 add-o c = search needs
 
--- src/lib.rt:117:9
 add-at : tie.Need-add-at Inv-loop μ-loop
 add-at c = search needs
 
--- src/lib.rt:118:9
 sub-left : tie.Need-sub-left Inv-loop μ-loop
 sub-left c = search needs
 
--- src/lib.rt:114:5
 loop-less : tie.Need-loop-less Inv-loop μ-loop
 loop-less c = search needs
 
--- src/lib.rt:114:5
 loop-again : tie.Need-loop-again Inv-loop μ-loop
 loop-again c =
     let l = c .before .before .loop in
@@ -65,11 +56,9 @@ loop-again c =
     let turn = eights-turn (l .left) (l .at) (a .line .now) (c .before .loop-test .taken) in
     (l .inv .0 ∙ rw (turn, ← c .number-at .ensures, add-one (l .o)), omega arith, omega arith, rw length-set (l .inv .3))
 
--- src/lib.rt:107:1
 same-length : tie.Need-same-length Inv-loop μ-loop
 same-length c = search needs
 
--- src/lib.rt:107:1
 returns : tie.Need-returns Inv-loop μ-loop
 unfolding eights
 returns c =

@@ -11,35 +11,28 @@ use Rattle.lines.proofs.hold.Reads as reads
 use Rattle.lines.proofs.hold.Lts as lts
 use Rattle.stores.proofs.put.Reads as put-reads
 
--- src/lib.rt:31:9
 returns : tie.Need-returns
 returns c =
     let a = c .before .before .before .args in
     let e = fitting-none (a .line .now) (a .held) (a .part .now) (c .if1 .taken) in
     (rw e (omega arith), (omega arith, rw e))
 
--- src/lib.rt:33:16
 sub-room : tie.Need-sub-room
 sub-room c = search needs
 
--- src/lib.rt:35:33
 slice-aggregate-put : tie.Need-slice-aggregate-put
 slice-aggregate-put c =
     sym (length-take-le _ _ (omega arith))
 
--- src/lib.rt:35:9
 put-requires : tie.Need-put-requires
 put-requires c κs = search needs
 
--- src/lib.rt:36:16
 add-result : tie.Need-add-result
 add-result c = search needs
 
--- src/lib.rt:36:9
 same-length : tie.Need-same-length
 same-length c = search needs
 
--- src/lib.rt:36:9
 returns-2 : tie.Need-returns-2
 returns-2 c =
     let a = c .before .before .before .before .before .before .before .before .before .args in
@@ -47,19 +40,15 @@ returns-2 c =
     let s = fitting-stored (a .line .now) (a .held) (a .part .now) (c .before .before .before .before .before .before .if1 .left) (c .before .before .before .before .before .if2 .taken) in
     (omega (arith, e), (omega arith, c .before .before .put .ensures .1 ∙ s))
 
--- src/lib.rt:38:5
 put-requires-2 : tie.Need-put-requires-2
 put-requires-2 c κs = search needs
 
--- src/lib.rt:39:5
 add-result-2 : tie.Need-add-result-2
 add-result-2 c = search needs
 
--- src/lib.rt:25:1
 same-length-2 : tie.Need-same-length-2
 same-length-2 c = search needs
 
--- src/lib.rt:25:1
 returns-3 : tie.Need-returns-3
 returns-3 c =
     let a = c .before .before .before .before .before .before .before .before .args in

@@ -19,37 +19,30 @@ abbrev μ-loop : tie.MeasureT-loop
 μ-loop piece from at₀ at =
     length piece - at
 
--- src/lib.rt:15:5
 loop-holds : tie.Need-loop-holds Inv-loop μ-loop
 loop-holds c = search needs
 
--- src/lib.rt:16:12
 shared-slice-read-if1 : tie.Need-shared-slice-read-if1 Inv-loop μ-loop
 shared-slice-read-if1 c = search needs
 
--- src/lib.rt:17:13
 returns : tie.Need-returns Inv-loop μ-loop
 returns c =
     let l = c .before .before .before .loop in
     let e = length-here (c .before .before .before .before .args .piece .now) (l .at) (c .before .before .loop-test .taken) (c .if1 .taken) in
     (omega (arith, l .inv, e), l .inv .1)
 
--- src/lib.rt:19:9
 add-at : tie.Need-add-at Inv-loop μ-loop
 add-at c = search needs
 
--- src/lib.rt:15:5
 loop-less : tie.Need-loop-less Inv-loop μ-loop
 loop-less c = search needs
 
--- src/lib.rt:15:5
 loop-again : tie.Need-loop-again Inv-loop μ-loop
 loop-again c =
     let l = c .before .before .before .loop in
     let e = length-later (c .before .before .before .before .args .piece .now) (l .at) (c .before .before .loop-test .taken) (c .if1 .left) in
     (omega (arith, l .inv, e), omega (arith, l .inv))
 
--- src/lib.rt:10:1
 returns-2 : tie.Need-returns-2 Inv-loop μ-loop
 returns-2 c =
     let l = c .before .loop in

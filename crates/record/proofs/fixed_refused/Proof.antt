@@ -5,20 +5,16 @@ use Rattle.record.proofs.fixed_refused.Tie as tie
 use Rattle.record.proofs.fixed_refused.Reads as reads
 use Rattle.record.proofs.fixed_refused.Lts as lts
 
--- src/lib.rt:25:27
 enum-told : tie.Need-enum-told
 enum-told c = search needs
 
--- src/lib.rt:29:24
 enum-known-f : tie.Need-enum-known-f
 enum-known-f c = search needs
 
--- src/lib.rt:21:1
 -- fill: 1f7f2c54
 returns : tie.Need-returns
 returns c = simp (c .enum-told .given .1)
 
--- src/lib.rt:21:1
 returns-2 : tie.Need-returns-2
 returns-2 c = search needs
 

@@ -5,20 +5,16 @@ use Rattle.record.proofs.genotypes_refused.Tie as tie
 use Rattle.record.proofs.genotypes_refused.Reads as reads
 use Rattle.record.proofs.genotypes_refused.Lts as lts
 
--- src/lib.rt:51:32
 enum-told : tie.Need-enum-told
 enum-told c = search needs
 
--- src/lib.rt:55:28
 enum-known-g : tie.Need-enum-known-g
 enum-known-g c = search needs
 
--- src/lib.rt:47:1
 -- fill: 1f7f2c54
 returns : tie.Need-returns
 returns c = simp (c .enum-told .given .1)
 
--- src/lib.rt:47:1
 returns-2 : tie.Need-returns-2
 returns-2 c = search needs
 

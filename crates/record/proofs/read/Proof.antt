@@ -15,59 +15,47 @@ use Rattle.record.proofs.genotypes_refused.Reads as genotypes-refused-r
 use Rattle.record.proofs.site_refused.Reads as site-refused-reads
 use Rattle.site.proofs.site_block.Reads as site-block-reads
 
--- src/lib.rt:64:9
 fixed-fields-requires : tie.Need-fixed-fields-requires
 fixed-fields-requires c κs = search needs
 
--- src/lib.rt:65:21
 enum-known-f : tie.Need-enum-known-f
 enum-known-f c = search needs
 
--- src/lib.rt:66:33
 enum-told : tie.Need-enum-told
 enum-told c = search needs
 
--- src/lib.rt:66:33
 fixed-refused-requires : tie.Need-fixed-refused-requires
 fixed-refused-requires c κs = search needs
 
--- src/lib.rt:66:9
 -- fill: 4915afe4
 returns : tie.Need-returns
 unfolding reading siteOf genotypesOf
 returns c =
     (simp (← c .before .before .before .fixed-fields .ensures .0, c .before .enum-told .given .1, c .fixed-refused .ensures), search needs)
 
--- src/lib.rt:70:19
 cast-alleles : tie.Need-cast-alleles
 cast-alleles c = search needs
 
--- src/lib.rt:71:17
 cast-infos : tie.Need-cast-infos
 cast-infos c = search needs
 
--- src/lib.rt:72:30
 slice-aggregate-site-block : tie.Need-slice-aggregate-site-block
 slice-aggregate-site-block c =
     let i = rw (c .before .before .before .before .f .given .1) at (c .before .before .before .before .before .before .fixed-fields .ensures .1) in
     sym (length-take-le _ _ (omega (arith, i)))
 
--- src/lib.rt:72:9
 site-block-requires : tie.Need-site-block-requires
 site-block-requires c κs = search needs
 
 enum-told-2 : tie.Need-enum-told-2
 enum-told-2 c = search needs
 
--- src/lib.rt:74:33
 enum-told-3 : tie.Need-enum-told-3
 enum-told-3 c = search needs
 
--- src/lib.rt:74:33
 site-refused-requires : tie.Need-site-refused-requires
 site-refused-requires c κs = search needs
 
--- src/lib.rt:74:9
 -- fill: 608bf447
 returns-2 : tie.Need-returns-2
 unfolding reading siteOf genotypesOf
@@ -82,29 +70,23 @@ returns-2 c = (
   search needs,
 )
 
--- src/lib.rt:76:39
 slice-aggregate-genotype-block : tie.Need-slice-aggregate-genotype-block
 slice-aggregate-genotype-block c =
     let i = rw (c .before .before .before .before .before .before .before .before .f .given .1) at (c .before .before .before .before .before .before .before .before .before .before .fixed-fields .ensures .1) in
     sym (length-take-le _ _ (i .2))
 
--- src/lib.rt:76:9
 genotype-block-requires : tie.Need-genotype-block-requires
 genotype-block-requires c κs = search needs
 
--- src/lib.rt:77:26
 enum-known-g : tie.Need-enum-known-g
 enum-known-g c = search needs
 
--- src/lib.rt:78:33
 enum-told-4 : tie.Need-enum-told-4
 enum-told-4 c = search needs
 
--- src/lib.rt:78:33
 genotypes-refused-requires : tie.Need-genotypes-refused-requires
 genotypes-refused-requires c κs = search needs
 
--- src/lib.rt:78:9
 -- fill: 44edf61f
 returns-3 : tie.Need-returns-3
 unfolding reading siteOf genotypesOf
@@ -121,7 +103,6 @@ returns-3 c = (
   search needs,
 )
 
--- src/lib.rt:60:1
 -- fill: 5f6a5b03
 returns-4 : tie.Need-returns-4
 unfolding reading siteOf genotypesOf

@@ -5,20 +5,16 @@ use Rattle.record.proofs.reading_refusal.Tie as tie
 use Rattle.record.proofs.reading_refusal.Reads as reads
 use Rattle.record.proofs.reading_refusal.Lts as lts
 
--- src/lib.rt:72:49
 enum-told : tie.Need-enum-told
 enum-told c = search needs
 
--- src/lib.rt:76:26
 enum-known-r : tie.Need-enum-known-r
 enum-known-r c = search needs
 
--- src/lib.rt:68:1
 -- fill: 1f7f2c54
 returns : tie.Need-returns
 returns c = simp (c .enum-told .given .1)
 
--- src/lib.rt:68:1
 returns-2 : tie.Need-returns-2
 returns-2 c = search needs
 

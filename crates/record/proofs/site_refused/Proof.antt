@@ -5,20 +5,16 @@ use Rattle.record.proofs.site_refused.Tie as tie
 use Rattle.record.proofs.site_refused.Reads as reads
 use Rattle.record.proofs.site_refused.Lts as lts
 
--- src/lib.rt:38:24
 enum-told : tie.Need-enum-told
 enum-told c = search needs
 
--- src/lib.rt:42:23
 enum-known-p : tie.Need-enum-known-p
 enum-known-p c = search needs
 
--- src/lib.rt:34:1
 -- fill: 1f7f2c54
 returns : tie.Need-returns
 returns c = simp (c .enum-told .given .1)
 
--- src/lib.rt:34:1
 returns-2 : tie.Need-returns-2
 returns-2 c = search needs
 

@@ -41,7 +41,6 @@ first-integer-repeat-below t =
     (falls 1 first-integer-repeat-kinds.ps _<_ μ-first-integer-repeat t)
     first-integer-repeat.Pre
 
--- src/lib.rt:157:9
 first-integer-repeat-integer-pairs-requires :
     (t : ℕ) → first-integer-repeat-lts.Need-integer-pairs-requires (
       integer-pairs-reads.Asked,
@@ -57,7 +56,6 @@ first-integer-repeat-integer-pairs-requires :
     ) (first-integer-repeat-at t) first-integer-repeat.Post
 first-integer-repeat-integer-pairs-requires t c κs = search needs
 
--- src/lib.rt:157:9
 first-integer-repeat-returns : (t : ℕ) → first-integer-repeat-lts.Need-returns (
   integer-pairs-reads.Asked,
   integer-pairs-reads.Learnt,
@@ -72,7 +70,6 @@ first-integer-repeat-returns : (t : ℕ) → first-integer-repeat-lts.Need-retur
 ) (first-integer-repeat-at t) first-integer-repeat.Post
 first-integer-repeat-returns t c = search needs
 
--- src/lib.rt:159:38
 first-integer-repeat-slice-aggregate-first-integer-repeat :
     (t : ℕ) → first-integer-repeat-lts.Need-slice-aggregate-first-integer-repeat (
       integer-pairs-reads.Asked,
@@ -88,7 +85,6 @@ first-integer-repeat-slice-aggregate-first-integer-repeat :
     ) (first-integer-repeat-at t) first-integer-repeat.Post
 first-integer-repeat-slice-aggregate-first-integer-repeat t c = sym (length-take-le 64 (c .before .before .args .values .now) (omega arith))
 
--- src/lib.rt:159:9
 first-integer-repeat-first-integer-repeat-requires :
     (t : ℕ) → first-integer-repeat-lts.Need-first-integer-repeat-requires (
       integer-pairs-reads.Asked,
@@ -107,7 +103,6 @@ first-integer-repeat-first-integer-repeat-requires t c κs =
     let q : length (take 64 v) ≡ 64 = length-take-le 64 v (omega arith) in
     (omega (arith, q, c .before .if1 .left, c .before .before .pre .0), tt)
 
--- src/lib.rt:161:9
 first-integer-repeat-returns-2 : (t : ℕ) → first-integer-repeat-lts.Need-returns-2 (
   integer-pairs-reads.Asked,
   integer-pairs-reads.Learnt,
@@ -126,7 +121,6 @@ first-integer-repeat-returns-2 t c =
     let l : 64 ≤ length (map (ofZ w32) v) = rw length-map (omega arith) in
     e ∙ repeat-early 64 (map (ofZ w32) v) l (rw e at (c .if2 .taken))
 
--- src/lib.rt:163:9
 first-integer-repeat-most-integer-requires :
     (t : ℕ) → first-integer-repeat-lts.Need-most-integer-requires (
       integer-pairs-reads.Asked,
@@ -142,7 +136,6 @@ first-integer-repeat-most-integer-requires :
     ) (first-integer-repeat-at t) first-integer-repeat.Post
 first-integer-repeat-most-integer-requires t c κs = search needs
 
--- src/lib.rt:164:8
 first-integer-repeat-is-few-requires : (t : ℕ) → first-integer-repeat-lts.Need-is-few-requires (
   integer-pairs-reads.Asked,
   integer-pairs-reads.Learnt,
@@ -157,7 +150,6 @@ first-integer-repeat-is-few-requires : (t : ℕ) → first-integer-repeat-lts.Ne
 ) (first-integer-repeat-at t) first-integer-repeat.Post
 first-integer-repeat-is-few-requires t c κs = search needs
 
--- src/lib.rt:165:9
 first-integer-repeat-integer-pairs-requires-2 :
     (t : ℕ) → first-integer-repeat-lts.Need-integer-pairs-requires-2 (
       integer-pairs-reads.Asked,
@@ -173,7 +165,6 @@ first-integer-repeat-integer-pairs-requires-2 :
     ) (first-integer-repeat-at t) first-integer-repeat.Post
 first-integer-repeat-integer-pairs-requires-2 t c κs = search needs
 
--- src/lib.rt:165:9
 first-integer-repeat-returns-3 : (t : ℕ) → first-integer-repeat-lts.Need-returns-3 (
   integer-pairs-reads.Asked,
   integer-pairs-reads.Learnt,
@@ -188,7 +179,6 @@ first-integer-repeat-returns-3 : (t : ℕ) → first-integer-repeat-lts.Need-ret
 ) (first-integer-repeat-at t) first-integer-repeat.Post
 first-integer-repeat-returns-3 t c = search needs
 
--- src/lib.rt:167:5
 first-integer-repeat-integer-windows-requires :
     (t : ℕ) → first-integer-repeat-lts.Need-integer-windows-requires (
       integer-pairs-reads.Asked,
@@ -204,7 +194,6 @@ first-integer-repeat-integer-windows-requires :
     ) (first-integer-repeat-at t) first-integer-repeat.Post
 first-integer-repeat-integer-windows-requires t c κs = search needs
 
--- src/lib.rt:153:1
 first-integer-repeat-returns-4 : (t : ℕ) → first-integer-repeat-lts.Need-returns-4 (
   integer-pairs-reads.Asked,
   integer-pairs-reads.Learnt,

@@ -38,7 +38,6 @@ first-repeat-below t =
     (falls 1 first-repeat-kinds.ps _<_ μ-first-repeat t)
     first-repeat.Pre
 
--- src/lib.rt:278:9
 first-repeat-row-of-requires : (t : ℕ) → first-repeat-lts.Need-row-of-requires (
   row-of-reads.Asked,
   row-of-reads.Learnt,
@@ -57,7 +56,6 @@ first-repeat-row-of-requires : (t : ℕ) → first-repeat-lts.Need-row-of-requir
 ) (first-repeat-at t) first-repeat.Post
 first-repeat-row-of-requires t c κs = search needs
 
--- src/lib.rt:280:41
 first-repeat-cast-over : (t : ℕ) → first-repeat-lts.Need-cast-over (
   row-of-reads.Asked,
   row-of-reads.Learnt,
@@ -76,7 +74,6 @@ first-repeat-cast-over : (t : ℕ) → first-repeat-lts.Need-cast-over (
 ) (first-repeat-at t) first-repeat.Post
 first-repeat-cast-over t c = search needs
 
--- src/lib.rt:280:9
 first-repeat-over-requires : (t : ℕ) → first-repeat-lts.Need-over-requires (
   row-of-reads.Asked,
   row-of-reads.Learnt,
@@ -95,7 +92,6 @@ first-repeat-over-requires : (t : ℕ) → first-repeat-lts.Need-over-requires (
 ) (first-repeat-at t) first-repeat.Post
 first-repeat-over-requires t c κs = search needs
 
--- src/lib.rt:282:9
 first-repeat-element-pairs-requires : (t : ℕ) → first-repeat-lts.Need-element-pairs-requires (
   row-of-reads.Asked,
   row-of-reads.Learnt,
@@ -114,7 +110,6 @@ first-repeat-element-pairs-requires : (t : ℕ) → first-repeat-lts.Need-elemen
 ) (first-repeat-at t) first-repeat.Post
 first-repeat-element-pairs-requires t c κs = search needs
 
--- src/lib.rt:282:9
 first-repeat-returns : (t : ℕ) → first-repeat-lts.Need-returns (
   row-of-reads.Asked,
   row-of-reads.Learnt,
@@ -133,7 +128,6 @@ first-repeat-returns : (t : ℕ) → first-repeat-lts.Need-returns (
 ) (first-repeat-at t) first-repeat.Post
 first-repeat-returns t c = search needs
 
--- src/lib.rt:284:22
 first-repeat-cast-front : (t : ℕ) → first-repeat-lts.Need-cast-front (
   row-of-reads.Asked,
   row-of-reads.Learnt,
@@ -152,7 +146,6 @@ first-repeat-cast-front : (t : ℕ) → first-repeat-lts.Need-cast-front (
 ) (first-repeat-at t) first-repeat.Post
 first-repeat-cast-front t c = search needs
 
--- src/lib.rt:284:17
 first-repeat-mul-front : (t : ℕ) → first-repeat-lts.Need-mul-front (
   row-of-reads.Asked,
   row-of-reads.Learnt,
@@ -171,7 +164,6 @@ first-repeat-mul-front : (t : ℕ) → first-repeat-lts.Need-mul-front (
 ) (first-repeat-at t) first-repeat.Post
 first-repeat-mul-front t c = search needs
 
--- src/lib.rt:285:30
 first-repeat-slice-aggregate-first-repeat :
     (t : ℕ) → first-repeat-lts.Need-slice-aggregate-first-repeat (
       row-of-reads.Asked,
@@ -194,7 +186,6 @@ first-repeat-slice-aggregate-first-repeat t c =
     let w = c .before .before .before .row-of .result .width in
     sym (length-take-le (64 * w) v (front-room 64 w (length v) (omega (arith, c .before .before .over .ensures .0, c .before .if1 .left))))
 
--- src/lib.rt:285:9
 first-repeat-first-repeat-requires : (t : ℕ) → first-repeat-lts.Need-first-repeat-requires (
   row-of-reads.Asked,
   row-of-reads.Learnt,
@@ -218,7 +209,6 @@ first-repeat-first-repeat-requires t c κs =
     let q : length (take (64 * w) v) ≡ 64 * w = length-take-le (64 * w) v (front-room 64 w (length v) (omega (arith, h))) in
     (omega (arith, q, front-less 64 w (length v) h, c .before .before .before .before .before .pre .0), tt)
 
--- src/lib.rt:287:9
 first-repeat-returns-2 : (t : ℕ) → first-repeat-lts.Need-returns-2 (
   row-of-reads.Asked,
   row-of-reads.Learnt,
@@ -243,7 +233,6 @@ first-repeat-returns-2 t c =
     let e : c .before .first-repeat .result ≡ firstRepeat (take 64 (elementsOf (a .code) v)) = c .before .first-repeat .ensures ∙ rw o (ap firstRepeat (elements-front (a .code) 64 v h)) in
     e ∙ repeat-early 64 (elementsOf (a .code) v) (rw (length-elements (a .code) v) h) (rw e at (c .if2 .taken))
 
--- src/lib.rt:289:9
 first-repeat-most-element-requires : (t : ℕ) → first-repeat-lts.Need-most-element-requires (
   row-of-reads.Asked,
   row-of-reads.Learnt,
@@ -262,7 +251,6 @@ first-repeat-most-element-requires : (t : ℕ) → first-repeat-lts.Need-most-el
 ) (first-repeat-at t) first-repeat.Post
 first-repeat-most-element-requires t c κs = search needs
 
--- src/lib.rt:290:8
 first-repeat-is-few-requires : (t : ℕ) → first-repeat-lts.Need-is-few-requires (
   row-of-reads.Asked,
   row-of-reads.Learnt,
@@ -281,7 +269,6 @@ first-repeat-is-few-requires : (t : ℕ) → first-repeat-lts.Need-is-few-requir
 ) (first-repeat-at t) first-repeat.Post
 first-repeat-is-few-requires t c κs = search needs
 
--- src/lib.rt:291:9
 first-repeat-element-pairs-requires-2 : (t : ℕ) → first-repeat-lts.Need-element-pairs-requires-2 (
   row-of-reads.Asked,
   row-of-reads.Learnt,
@@ -300,7 +287,6 @@ first-repeat-element-pairs-requires-2 : (t : ℕ) → first-repeat-lts.Need-elem
 ) (first-repeat-at t) first-repeat.Post
 first-repeat-element-pairs-requires-2 t c κs = search needs
 
--- src/lib.rt:291:9
 first-repeat-returns-3 : (t : ℕ) → first-repeat-lts.Need-returns-3 (
   row-of-reads.Asked,
   row-of-reads.Learnt,
@@ -319,7 +305,6 @@ first-repeat-returns-3 : (t : ℕ) → first-repeat-lts.Need-returns-3 (
 ) (first-repeat-at t) first-repeat.Post
 first-repeat-returns-3 t c = search needs
 
--- src/lib.rt:293:5
 first-repeat-element-windows-requires : (t : ℕ) → first-repeat-lts.Need-element-windows-requires (
   row-of-reads.Asked,
   row-of-reads.Learnt,
@@ -338,7 +323,6 @@ first-repeat-element-windows-requires : (t : ℕ) → first-repeat-lts.Need-elem
 ) (first-repeat-at t) first-repeat.Post
 first-repeat-element-windows-requires t c κs = search needs
 
--- src/lib.rt:275:1
 first-repeat-returns-4 : (t : ℕ) → first-repeat-lts.Need-returns-4 (
   row-of-reads.Asked,
   row-of-reads.Learnt,

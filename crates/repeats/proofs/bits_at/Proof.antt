@@ -10,19 +10,15 @@ use Rattle.repeats.proofs.bits_at.Reads as reads
 use Rattle.repeats.proofs.bits_at.Lts as lts
 use Rattle.words.proofs.bits.Reads as bits-reads
 
--- src/lib.rt:50:17
 mul-bits : tie.Need-mul-bits
 mul-bits c = search needs
 
--- src/lib.rt:50:17
 shared-slice-copy-out-bits : tie.Need-shared-slice-copy-out-bits
 shared-slice-copy-out-bits c = search needs
 
--- src/lib.rt:50:5
 bits-requires : tie.Need-bits-requires
 bits-requires c κs = search needs
 
--- src/lib.rt:46:1
 returns : tie.Need-returns
 returns c = c .bits .ensures ∙ bits-back (getD (c .before .before .args .values .now) (c .before .before .args .i) (pos 0)) (c .before .bits-arg .given) ∙ sym (bits-at (c .before .before .args .values .now) (c .before .before .args .i))
 

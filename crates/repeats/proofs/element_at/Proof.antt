@@ -14,41 +14,33 @@ use Rattle.repeats.proofs.element_at.Lts as lts
 use Rattle.types.proofs.shown_bits.Reads as shown-bits-reads
 use Rattle.words.proofs.word.Reads as word-reads
 
--- src/lib.rt:175:14
 mul-at : tie.Need-mul-at
 mul-at c =
     let a = c .before .args in
     omega (arith, element-room (a .i) (a .w) (length (a .part .now)) (c .before .pre .2))
 
--- src/lib.rt:176:16
 add-stop : tie.Need-add-stop
 add-stop c =
     let a = c .before .args in
     omega (arith, element-room (a .i) (a .w) (length (a .part .now)) (c .before .pre .2))
 
--- src/lib.rt:177:41
 sub-word : tie.Need-sub-word
 sub-word c = search needs
 
--- src/lib.rt:177:41
 part-word-start : tie.Need-part-word-start
 part-word-start c = search needs
 
--- src/lib.rt:177:41
 part-word-end : tie.Need-part-word-end
 part-word-end c =
     let a = c .before .args in
     omega (arith, element-room (a .i) (a .w) (length (a .part .now)) (c .before .pre .2))
 
--- src/lib.rt:177:29
 word-requires : tie.Need-word-requires
 word-requires c κs = search needs
 
--- src/lib.rt:177:5
 shown-bits-requires : tie.Need-shown-bits-requires
 shown-bits-requires c κs = search needs
 
--- src/lib.rt:171:1
 returns : tie.Need-returns
 returns c =
     let a = c .before .before .before .before .args in

@@ -26,20 +26,16 @@ abbrev μ-loop : tie.MeasureT-loop
 μ-loop part code w count i₀ i =
     count - i
 
--- src/lib.rt:219:5
 loop-holds : tie.Need-loop-holds Inv-loop μ-loop
 loop-holds c =
     ((λ j h. absurd (omega arith)), omega arith)
 
--- src/lib.rt:220:13
 element-at-requires : tie.Need-element-at-requires Inv-loop μ-loop
 element-at-requires c κs = search needs
 
--- src/lib.rt:221:12
 element-stood-requires : tie.Need-element-stood-requires Inv-loop μ-loop
 element-stood-requires c κs = search needs
 
--- src/lib.rt:222:13
 returns : tie.Need-returns Inv-loop μ-loop
 unfolding stood
 returns c =
@@ -49,15 +45,12 @@ returns c =
     let m : c .before .element-stood .result ≡ stood (elementsOf (a .code) (a .part .now)) (l .i) = c .before .element-stood .ensures ∙ ap (λ x. among x (earlier (l .i) (elementsOf (a .code) (a .part .now)))) (c .before .before .element-at .ensures) in
     found (elementsOf (a .code) (a .part .now)) (l .i) (omega (arith, n)) (inr (sym m ∙ c .if1 .taken)) (l .inv .0)
 
--- src/lib.rt:224:9
 add-i : tie.Need-add-i Inv-loop μ-loop
 add-i c = search needs
 
--- src/lib.rt:219:5
 loop-less : tie.Need-loop-less Inv-loop μ-loop
 loop-less c = search needs
 
--- src/lib.rt:219:5
 loop-again : tie.Need-loop-again Inv-loop μ-loop
 unfolding stood
 loop-again c =
@@ -66,7 +59,6 @@ loop-again c =
     let m : c .before .element-stood .result ≡ stood (elementsOf (a .code) (a .part .now)) (l .i) = c .before .element-stood .ensures ∙ ap (λ x. among x (earlier (l .i) (elementsOf (a .code) (a .part .now)))) (c .before .before .element-at .ensures) in
     (onward (λ j. stood (elementsOf (a .code) (a .part .now)) j ≡ false) (l .i) (l .inv .0) (sym m ∙ c .if1 .left), omega arith)
 
--- src/lib.rt:214:1
 returns-2 : tie.Need-returns-2 Inv-loop μ-loop
 returns-2 c =
     let l = c .before .loop in

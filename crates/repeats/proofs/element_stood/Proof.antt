@@ -22,21 +22,17 @@ abbrev μ-loop : tie.MeasureT-loop
 μ-loop part code w count x left₀ left =
     left
 
--- src/lib.rt:204:5
 loop-holds : tie.Need-loop-holds Inv-loop μ-loop
 loop-holds c = search needs
 
--- src/lib.rt:205:9
 sub-left : tie.Need-sub-left Inv-loop μ-loop
 sub-left c = search needs
 
--- src/lib.rt:206:12
 element-at-requires : tie.Need-element-at-requires Inv-loop μ-loop
 element-at-requires c κs =
     let p = c .before .before .before .pre in
     (p .0, p .1, omega (arith, p .2))
 
--- src/lib.rt:207:13
 returns : tie.Need-returns Inv-loop μ-loop
 returns c =
     let l = c .before .before .before .loop in
@@ -44,11 +40,9 @@ returns c =
     let t = among-turn (a .x) (l .left) (elementsOf (a .code) (a .part .now)) (c .before .before .loop-test .taken) in
     sym (l .inv .0 ∙ rw (t, ← c .before .element-at .ensures, eq-eqb _ _ (c .if1 .taken)))
 
--- src/lib.rt:204:5
 loop-less : tie.Need-loop-less Inv-loop μ-loop
 loop-less c = search needs
 
--- src/lib.rt:204:5
 loop-again : tie.Need-loop-again Inv-loop μ-loop
 loop-again c =
     let l = c .before .before .before .loop in
@@ -56,7 +50,6 @@ loop-again c =
     let t = among-turn (a .x) (l .left) (elementsOf (a .code) (a .part .now)) (c .before .before .loop-test .taken) in
     (l .inv .0 ∙ rw (t, ← c .before .element-at .ensures, ne-eqb _ _ (c .if1 .left)), omega arith)
 
--- src/lib.rt:199:1
 returns-2 : tie.Need-returns-2 Inv-loop μ-loop
 unfolding among earlier
 returns-2 c =

@@ -22,14 +22,12 @@ abbrev μ-loop : tie.MeasureT-loop
 μ-loop part code w count most bound₀ window₀ bound window =
     most / 4194304 + 1 - window
 
--- src/lib.rt:267:5
 loop-holds : tie.Need-loop-holds Inv-loop μ-loop
 loop-holds c =
     let a = c .before .args in
     let n : length (elementsOf (a .code) (a .part .now)) ≡ a .count = length-elements (a .code) (a .part .now) ∙ rw (← c .before .pre .0 .0) (sym (c .before .pre .0 .2)) in
     (bound-start (elementsOf (a .code) (a .part .now)) (a .count) (sym n), omega arith)
 
--- src/lib.rt:268:9
 part-window-requires : tie.Need-part-window-requires Inv-loop μ-loop
 part-window-requires c κs =
     let a = c .before .before .before .args in
@@ -37,22 +35,18 @@ part-window-requires c κs =
     let n : length (elementsOf (a .code) (a .part .now)) ≡ a .count = length-elements (a .code) (a .part .now) ∙ rw (← p .0) (sym (p .2)) in
     (p .0, p .1, omega (arith, n, p .2, c .before .loop .inv .0 .0))
 
--- src/lib.rt:269:9
 add-window : tie.Need-add-window Inv-loop μ-loop
 add-window c = search needs
 
--- src/lib.rt:267:5
 loop-less : tie.Need-loop-less Inv-loop μ-loop
 loop-less c = search needs
 
--- src/lib.rt:267:5
 loop-again : tie.Need-loop-again Inv-loop μ-loop
 loop-again c =
     let l = c .before .before .loop in
     let a = c .before .before .before .before .args in
     (bound-turn (elementsOf (a .code) (a .part .now)) (l .window) (l .bound) _ (l .inv .0) (c .part-window .ensures), omega arith)
 
--- src/lib.rt:260:1
 returns : tie.Need-returns Inv-loop μ-loop
 returns c =
     let l = c .before .loop in

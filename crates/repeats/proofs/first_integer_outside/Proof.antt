@@ -25,19 +25,15 @@ abbrev μ-loop : tie.MeasureT-loop
 μ-loop values size i₀ i =
     length values - i
 
--- src/lib.rt:59:5
 loop-holds : tie.Need-loop-holds Inv-loop μ-loop
 loop-holds c = search needs
 
--- src/lib.rt:60:36
 bits-at-requires : tie.Need-bits-at-requires Inv-loop μ-loop
 bits-at-requires c κs = search needs
 
--- src/lib.rt:60:12
 is-outside-requires : tie.Need-is-outside-requires Inv-loop μ-loop
 is-outside-requires c κs = search needs
 
--- src/lib.rt:61:13
 returns : tie.Need-returns Inv-loop μ-loop
 returns c =
     let l = c .before .before .before .before .loop in
@@ -46,15 +42,12 @@ returns c =
     let o : c .before .is-outside .result ≡ outside (a .size) (getD (map (ofZ w32) (a .values .now)) (l .i) 0) = c .before .is-outside .ensures ∙ ap (outside (a .size)) (c .before .before .bits-at .ensures) in
     (sym (l .inv .0 ∙ rw (t, ← o, c .if1 .taken)), l .inv .1)
 
--- src/lib.rt:63:9
 add-i : tie.Need-add-i Inv-loop μ-loop
 add-i c = search needs
 
--- src/lib.rt:59:5
 loop-less : tie.Need-loop-less Inv-loop μ-loop
 loop-less c = search needs
 
--- src/lib.rt:59:5
 loop-again : tie.Need-loop-again Inv-loop μ-loop
 loop-again c =
     let l = c .before .before .before .before .loop in
@@ -63,7 +56,6 @@ loop-again c =
     let o : c .before .is-outside .result ≡ outside (a .size) (getD (map (ofZ w32) (a .values .now)) (l .i) 0) = c .before .is-outside .ensures ∙ ap (outside (a .size)) (c .before .before .bits-at .ensures) in
     (l .inv .0 ∙ rw (t, ← o, c .if1 .left), omega arith)
 
--- src/lib.rt:54:1
 returns-2 : tie.Need-returns-2 Inv-loop μ-loop
 returns-2 c =
     let l = c .before .loop in

@@ -26,34 +26,27 @@ abbrev μ-loop : tie.MeasureT-loop
 μ-loop part code size w count i₀ i =
     count - i
 
--- src/lib.rt:185:9
 row-of-requires : tie.Need-row-of-requires Inv-loop μ-loop
 row-of-requires c κs = search needs
 
--- src/lib.rt:187:41
 cast-over : tie.Need-cast-over Inv-loop μ-loop
 cast-over c = search needs
 
--- src/lib.rt:187:9
 over-requires : tie.Need-over-requires Inv-loop μ-loop
 over-requires c κs = search needs
 
--- src/lib.rt:189:5
 loop-holds : tie.Need-loop-holds Inv-loop μ-loop
 loop-holds c =
     (sym (zero-add _), omega arith)
 
--- src/lib.rt:190:36
 element-at-requires : tie.Need-element-at-requires Inv-loop μ-loop
 element-at-requires c κs =
     let r = c .before .before .before .row-of .ensures .1 in
     (r .0, r .1, rw (← c .before .before .over .ensures .0) (c .loop-test .taken))
 
--- src/lib.rt:190:12
 is-outside-requires : tie.Need-is-outside-requires Inv-loop μ-loop
 is-outside-requires c κs = search needs
 
--- src/lib.rt:191:13
 returns : tie.Need-returns Inv-loop μ-loop
 returns c =
     let l = c .before .before .before .before .loop in
@@ -63,15 +56,12 @@ returns c =
     let o : c .before .is-outside .result ≡ outside (a .size) (getD (elementsOf (a .code) (a .part .now)) (l .i) 0) = c .before .is-outside .ensures ∙ ap (outside (a .size)) (c .before .before .element-at .ensures) in
     (sym (l .inv .0 ∙ rw (t, ← o, c .if1 .taken)), omega (arith, n, length-elements (a .code) (a .part .now)))
 
--- src/lib.rt:193:9
 add-i : tie.Need-add-i Inv-loop μ-loop
 add-i c = search needs
 
--- src/lib.rt:189:5
 loop-less : tie.Need-loop-less Inv-loop μ-loop
 loop-less c = search needs
 
--- src/lib.rt:189:5
 loop-again : tie.Need-loop-again Inv-loop μ-loop
 loop-again c =
     let l = c .before .before .before .before .loop in
@@ -81,7 +71,6 @@ loop-again c =
     let o : c .before .is-outside .result ≡ outside (a .size) (getD (elementsOf (a .code) (a .part .now)) (l .i) 0) = c .before .is-outside .ensures ∙ ap (outside (a .size)) (c .before .before .element-at .ensures) in
     (l .inv .0 ∙ rw (t, ← o, c .if1 .left), omega arith)
 
--- src/lib.rt:181:1
 returns-2 : tie.Need-returns-2 Inv-loop μ-loop
 returns-2 c =
     let l = c .before .loop in

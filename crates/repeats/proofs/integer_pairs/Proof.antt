@@ -27,20 +27,16 @@ abbrev μ-loop : tie.MeasureT-loop
 μ-loop values i₀ i =
     length values - i
 
--- src/lib.rt:88:5
 loop-holds : tie.Need-loop-holds Inv-loop μ-loop
 loop-holds c =
     ((λ j h. absurd (omega arith)), omega arith)
 
--- src/lib.rt:89:37
 bits-at-requires : tie.Need-bits-at-requires Inv-loop μ-loop
 bits-at-requires c κs = search needs
 
--- src/lib.rt:89:12
 integer-stood-requires : tie.Need-integer-stood-requires Inv-loop μ-loop
 integer-stood-requires c κs = search needs
 
--- src/lib.rt:90:13
 returns : tie.Need-returns Inv-loop μ-loop
 unfolding stood
 returns c =
@@ -49,15 +45,12 @@ returns c =
     let m : c .before .integer-stood .result ≡ stood (map (ofZ w32) (a .values .now)) (l .i) = c .before .integer-stood .ensures ∙ ap (λ x. among x (earlier (l .i) (map (ofZ w32) (a .values .now)))) (c .before .before .bits-at .ensures) in
     found (map (ofZ w32) (a .values .now)) (l .i) (rw length-map (l .inv .1)) (inr (sym m ∙ c .if1 .taken)) (l .inv .0)
 
--- src/lib.rt:92:9
 add-i : tie.Need-add-i Inv-loop μ-loop
 add-i c = search needs
 
--- src/lib.rt:88:5
 loop-less : tie.Need-loop-less Inv-loop μ-loop
 loop-less c = search needs
 
--- src/lib.rt:88:5
 loop-again : tie.Need-loop-again Inv-loop μ-loop
 unfolding stood
 loop-again c =
@@ -66,7 +59,6 @@ loop-again c =
     let m : c .before .integer-stood .result ≡ stood (map (ofZ w32) (a .values .now)) (l .i) = c .before .integer-stood .ensures ∙ ap (λ x. among x (earlier (l .i) (map (ofZ w32) (a .values .now)))) (c .before .before .bits-at .ensures) in
     (onward (λ j. stood (map (ofZ w32) (a .values .now)) j ≡ false) (l .i) (l .inv .0) (sym m ∙ c .if1 .left), omega arith)
 
--- src/lib.rt:84:1
 returns-2 : tie.Need-returns-2 Inv-loop μ-loop
 returns-2 c =
     let l = c .before .loop in

@@ -24,19 +24,15 @@ abbrev μ-loop : tie.MeasureT-loop
 μ-loop values count x left₀ left =
     left
 
--- src/lib.rt:74:5
 loop-holds : tie.Need-loop-holds Inv-loop μ-loop
 loop-holds c = search needs
 
--- src/lib.rt:75:9
 sub-left : tie.Need-sub-left Inv-loop μ-loop
 sub-left c = search needs
 
--- src/lib.rt:76:12
 bits-at-requires : tie.Need-bits-at-requires Inv-loop μ-loop
 bits-at-requires c κs = search needs
 
--- src/lib.rt:77:13
 returns : tie.Need-returns Inv-loop μ-loop
 returns c =
     let l = c .before .before .before .loop in
@@ -44,11 +40,9 @@ returns c =
     let t = among-turn (a .x) (l .left) (map (ofZ w32) (a .values .now)) (c .before .before .loop-test .taken) in
     sym (l .inv .0 ∙ rw (t, ← c .before .bits-at .ensures, eq-eqb _ _ (c .if1 .taken)))
 
--- src/lib.rt:74:5
 loop-less : tie.Need-loop-less Inv-loop μ-loop
 loop-less c = search needs
 
--- src/lib.rt:74:5
 loop-again : tie.Need-loop-again Inv-loop μ-loop
 loop-again c =
     let l = c .before .before .before .loop in
@@ -56,7 +50,6 @@ loop-again c =
     let t = among-turn (a .x) (l .left) (map (ofZ w32) (a .values .now)) (c .before .before .loop-test .taken) in
     (l .inv .0 ∙ rw (t, ← c .before .bits-at .ensures, ne-eqb _ _ (c .if1 .left)), omega arith)
 
--- src/lib.rt:69:1
 returns-2 : tie.Need-returns-2 Inv-loop μ-loop
 unfolding among earlier
 returns-2 c =

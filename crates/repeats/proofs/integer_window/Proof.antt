@@ -27,26 +27,21 @@ abbrev μ-loop : tie.MeasureT-loop
 μ-loop values bound window bits₀ i₀ bits i =
     bound - i
 
--- src/lib.rt:117:5
 loop-holds : tie.Need-loop-holds Inv-loop μ-loop
 unfolding earlier
 loop-holds c =
     (refl, notes-none (c .args .window) 131072 refl, (λ j h. absurd (omega arith)), omega arith)
 
--- src/lib.rt:118:17
 slice-aggregate-note : tie.Need-slice-aggregate-note Inv-loop μ-loop
 slice-aggregate-note c = search needs
 
--- src/lib.rt:118:40
 bits-at-requires : tie.Need-bits-at-requires Inv-loop μ-loop
 bits-at-requires c κs = search needs
 
--- src/lib.rt:118:12
 note-requires : tie.Need-note-requires Inv-loop μ-loop
 note-requires c κs =
     c .before .before .before .loop .inv .0
 
--- src/lib.rt:119:13
 returns : tie.Need-returns Inv-loop μ-loop
 returns c =
     let l = c .before .before .before .before .before .before .loop in
@@ -54,16 +49,13 @@ returns c =
     let e : noted (a .window) (getD (map (ofZ w32) (a .values .now)) (l .i) 0) (l .bits) ≡ true = rw (← c .before .before .before .bits-at .ensures, ← c .before .before .note .ensures .0) (c .if1 .taken) in
     (l .inv .3, inr (sweep-stop (map (ofZ w32) (a .values .now)) (l .bits) (a .window) (l .i) (l .inv .1) e), l .inv .2)
 
--- src/lib.rt:121:9
 add-i : tie.Need-add-i Inv-loop μ-loop
 add-i c = search needs
 
--- src/lib.rt:117:5
 loop-less : tie.Need-loop-less Inv-loop μ-loop
 loop-less c =
     fewer (c .before .before .before .before .before .before .before .args .bound) (c .before .before .before .before .before .before .loop .i) (c .before .before .before .before .before .loop-test .taken)
 
--- src/lib.rt:117:5
 loop-again : tie.Need-loop-again Inv-loop μ-loop
 loop-again c =
     let l = c .before .before .before .before .before .before .loop in
@@ -77,7 +69,6 @@ loop-again c =
       one-more (a .bound) (l .i) (c .before .before .before .before .before .loop-test .taken),
     )
 
--- src/lib.rt:111:1
 returns-2 : tie.Need-returns-2 Inv-loop μ-loop
 returns-2 c =
     let l = c .before .loop in

@@ -23,32 +23,26 @@ abbrev μ-loop : tie.MeasureT-loop
 μ-loop values most bound₀ window₀ bound window =
     most / 4194304 + 1 - window
 
--- src/lib.rt:133:5
 loop-holds : tie.Need-loop-holds Inv-loop μ-loop
 loop-holds c =
     (bound-start (map (ofZ w32) (c .args .values .now)) _ (sym (length-map (c .args .values .now) (ofZ w32))), omega arith)
 
--- src/lib.rt:134:9
 integer-window-requires : tie.Need-integer-window-requires Inv-loop μ-loop
 integer-window-requires c κs =
     rw length-map at (c .before .loop .inv .0 .0)
 
--- src/lib.rt:135:9
 add-window : tie.Need-add-window Inv-loop μ-loop
 add-window c = search needs
 
--- src/lib.rt:133:5
 loop-less : tie.Need-loop-less Inv-loop μ-loop
 loop-less c = search needs
 
--- src/lib.rt:133:5
 loop-again : tie.Need-loop-again Inv-loop μ-loop
 loop-again c =
     let l = c .before .before .loop in
     let a = c .before .before .before .args in
     (bound-turn (map (ofZ w32) (a .values .now)) (l .window) (l .bound) _ (l .inv .0) (c .integer-window .ensures), omega arith)
 
--- src/lib.rt:127:1
 returns : tie.Need-returns Inv-loop μ-loop
 returns c =
     let l = c .before .loop in

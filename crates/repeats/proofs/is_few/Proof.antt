@@ -9,22 +9,18 @@ use Rattle.repeats.proofs.is_few.Tie as tie
 use Rattle.repeats.proofs.is_few.Reads as reads
 use Rattle.repeats.proofs.is_few.Lts as lts
 
--- src/lib.rt:51:9
 returns : tie.Need-returns
 unfolding few
 returns c =
     rw (le-leb _ _ (c .if1 .taken))
 
--- src/lib.rt:53:5
 mul-result : tie.Need-mul-result
 mul-result c =
     record { fits = let q = prod 65536 65536 (omega arith) (c .if1 .left) (c .if1 .left) in omega (arith, q) }
 
--- src/lib.rt:53:30
 cast-result : tie.Need-cast-result
 cast-result c = search needs
 
--- src/lib.rt:47:1
 returns-2 : tie.Need-returns-2
 unfolding few
 returns-2 c =

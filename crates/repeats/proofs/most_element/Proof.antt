@@ -22,28 +22,22 @@ abbrev μ-loop : tie.MeasureT-loop
 μ-loop part code w count most₀ i₀ most i =
     count - i
 
--- src/lib.rt:236:5
 loop-holds : tie.Need-loop-holds Inv-loop μ-loop
 loop-holds c =
     ((λ j h. absurd (omega arith)), omega arith)
 
--- src/lib.rt:237:29
 element-at-requires : tie.Need-element-at-requires Inv-loop μ-loop
 element-at-requires c κs = search needs
 
--- src/lib.rt:237:9
 larger-requires : tie.Need-larger-requires Inv-loop μ-loop
 larger-requires c κs = search needs
 
--- src/lib.rt:238:9
 add-i : tie.Need-add-i Inv-loop μ-loop
 add-i c = search needs
 
--- src/lib.rt:236:5
 loop-less : tie.Need-loop-less Inv-loop μ-loop
 loop-less c = search needs
 
--- src/lib.rt:236:5
 loop-again : tie.Need-loop-again Inv-loop μ-loop
 loop-again c =
     let l = c .before .before .before .loop in
@@ -51,7 +45,6 @@ loop-again c =
     let m = c .larger .ensures in
     (onward (λ j. getD (elementsOf (a .code) (a .part .now)) j 0 ≤ c .larger .result) (l .i) (λ j h. let k = l .inv .0 j h in omega (arith, k, m)) (rw (← c .before .element-at .ensures) (m .1)), omega arith)
 
--- src/lib.rt:230:1
 returns : tie.Need-returns Inv-loop μ-loop
 returns c =
     let l = c .before .loop in

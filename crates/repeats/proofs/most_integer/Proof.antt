@@ -22,28 +22,22 @@ abbrev μ-loop : tie.MeasureT-loop
 μ-loop values most₀ i₀ most i =
     length values - i
 
--- src/lib.rt:103:5
 loop-holds : tie.Need-loop-holds Inv-loop μ-loop
 loop-holds c =
     (λ j h. absurd (omega arith), omega arith)
 
--- src/lib.rt:104:29
 bits-at-requires : tie.Need-bits-at-requires Inv-loop μ-loop
 bits-at-requires c κs = search needs
 
--- src/lib.rt:104:9
 larger-requires : tie.Need-larger-requires Inv-loop μ-loop
 larger-requires c κs = search needs
 
--- src/lib.rt:105:9
 add-i : tie.Need-add-i Inv-loop μ-loop
 add-i c = search needs
 
--- src/lib.rt:103:5
 loop-less : tie.Need-loop-less Inv-loop μ-loop
 loop-less c = search needs
 
--- src/lib.rt:103:5
 loop-again : tie.Need-loop-again Inv-loop μ-loop
 loop-again c =
     let l = c .before .before .before .loop in
@@ -51,7 +45,6 @@ loop-again c =
     let m = c .larger .ensures in
     (onward (λ j. getD (map (ofZ w32) (a .values .now)) j 0 ≤ c .larger .result) (l .i) (λ j h. let k = l .inv .0 j h in omega (arith, k, m)) (rw (← c .before .bits-at .ensures) (m .1)), omega arith)
 
--- src/lib.rt:98:1
 returns : tie.Need-returns Inv-loop μ-loop
 returns c =
     let l = c .before .loop in

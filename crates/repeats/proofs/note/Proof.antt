@@ -12,39 +12,31 @@ use Rattle.repeats.proofs.note.Tie as tie
 use Rattle.repeats.proofs.note.Reads as reads
 use Rattle.repeats.proofs.note.Lts as lts
 
--- src/lib.rt:22:9
 returns : tie.Need-returns
 unfolding noted noting
 returns c =
     (simp (ne-eqb _ _ (c .if1 .taken)), (simp (ne-eqb _ _ (c .if1 .taken)), c .before .pre))
 
--- src/lib.rt:25:13
 cast-i : tie.Need-cast-i
 cast-i c = search needs
 
--- src/lib.rt:27:16
 mul-word : tie.Need-mul-word
 mul-word c = search needs
 
--- src/lib.rt:27:16
 slice-read-word : tie.Need-slice-read-word
 slice-read-word c = search needs
 
--- src/lib.rt:28:9
 shr-if2 : tie.Need-shr-if2
 shr-if2 c = search needs
 
--- src/lib.rt:29:9
 returns-2 : tie.Need-returns-2
 unfolding noted noting held
 returns-2 c =
     (simp (eq-eqb _ _ (c .before .before .if1 .left), eq-eqb _ _ (c .if2 .taken)), (simp (eq-eqb _ _ (c .before .before .if1 .left), eq-eqb _ _ (c .if2 .taken)), c .before .before .before .pre))
 
--- src/lib.rt:31:23
 shl-bits : tie.Need-shl-bits
 shl-bits c = search needs
 
--- src/lib.rt:31:15
 add-bits : tie.Need-add-bits
 add-bits c =
     let a = c .before .before .before .args in
@@ -55,19 +47,15 @@ add-bits c =
     let k = c .before .slice-known .given (a .x % 4194304 / 32) in
     record { fits = rw (one-bit b (omega arith)) (set-below 32 b v (omega arith) (omega (arith, k)) z) }
 
--- src/lib.rt:31:5
 mul-bits : tie.Need-mul-bits
 mul-bits c = search needs
 
--- src/lib.rt:31:5
 slice-write-bits : tie.Need-slice-write-bits
 slice-write-bits c = search needs
 
--- src/lib.rt:15:1
 same-length : tie.Need-same-length
 same-length c = search needs
 
--- src/lib.rt:15:1
 returns-3 : tie.Need-returns-3
 unfolding noted noting held marked
 returns-3 c =

@@ -10,7 +10,6 @@ use Rattle.repeats.proofs.part_window.Lts as lts
 use Rattle.repeats.proofs.element_window.Reads as element-window-reads
 use Rattle.repeats.proofs.long_window.Reads as long-window-reads
 
--- src/lib.rt:281:9
 long-window-requires : tie.Need-long-window-requires
 long-window-requires c κs =
     let a = c .before .before .args in
@@ -19,18 +18,15 @@ long-window-requires c κs =
     let w : a .w ≡ 4 = p .0 ∙ ap widthOf k ∙ width-3 in
     rw w at (p .2)
 
--- src/lib.rt:281:9
 returns : tie.Need-returns
 returns c =
     let a = c .before .before .before .args in
     let k : a .code ≡ 3 = c .before .if1 .taken in
     rw k (c .long-window .ensures)
 
--- src/lib.rt:283:5
 element-window-requires : tie.Need-element-window-requires
 element-window-requires c κs = search needs
 
--- src/lib.rt:276:1
 returns-2 : tie.Need-returns-2
 returns-2 c = search needs
 

@@ -21,38 +21,30 @@ Inv-loop block from count left₀ at₀ left at =
 abbrev μ-loop : tie.MeasureT-loop
 μ-loop block from count left₀ at₀ left at = left
 
--- src/lib.rt:109:5
 loop-holds : tie.Need-loop-holds Inv-loop μ-loop
 loop-holds c = search needs
 
--- src/lib.rt:110:13
 allele-at-requires : tie.Need-allele-at-requires Inv-loop μ-loop
 allele-at-requires c κs = search needs
 
--- src/lib.rt:111:22
 enum-known-a : tie.Need-enum-known-a Inv-loop μ-loop
 enum-known-a c = search needs
 
--- src/lib.rt:112:13
 enum-told : tie.Need-enum-told Inv-loop μ-loop
 enum-told c = search needs
 
--- src/lib.rt:112:13
 returns : tie.Need-returns Inv-loop μ-loop
 returns c =
     let l = c .before .before .before .before .loop in
     let r = c .before .before .allele-at .ensures in
     (rw (l .inv .0, times-turn allele _ _ _ (c .before .before .before .loop-test .taken), ← r .0, c .enum-told .given .1), rw (c .enum-told .given .1) tt)
 
--- src/lib.rt:115:9
 sub-left : tie.Need-sub-left Inv-loop μ-loop
 sub-left c = search needs
 
--- src/lib.rt:109:5
 loop-less : tie.Need-loop-less Inv-loop μ-loop
 loop-less c = search needs
 
--- src/lib.rt:109:5
 loop-again : tie.Need-loop-again Inv-loop μ-loop
 loop-again c =
     let l = c .before .before .before .before .before .loop in
@@ -60,7 +52,6 @@ loop-again c =
     let i = rw (c .before .a .given .1) at (c .before .before .before .allele-at .ensures .1) in
     (l .inv .0 ∙ rw (times-turn allele _ _ _ (c .before .before .before .before .loop-test .taken), ← c .before .before .before .allele-at .ensures .0, c .before .a .given .1, drop-on (a .block .now) (l .at) (c .before .a .given .0 .0) (i .0)), omega (arith, i), omega (arith, i))
 
--- src/lib.rt:103:1
 returns-2 : tie.Need-returns-2 Inv-loop μ-loop
 unfolding times
 returns-2 c =

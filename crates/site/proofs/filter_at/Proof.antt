@@ -14,58 +14,47 @@ use Rattle.site.proofs.past_elements.Reads as past-elements-reads
 use Rattle.site.proofs.past_value.Reads as past-value-reads
 use Rattle.values.proofs.value_at.Reads as value-at-reads
 
--- src/lib.rt:176:9
 value-at-requires : tie.Need-value-at-requires
 value-at-requires c κs = search needs
 
--- src/lib.rt:178:9
 enum-known-v : tie.Need-enum-known-v
 enum-known-v c = search needs
 
--- src/lib.rt:184:9
 enum-told : tie.Need-enum-told
 enum-told c = search needs
 
--- src/lib.rt:184:9
 past-value-requires : tie.Need-past-value-requires
 past-value-requires c κs = search needs
 
--- src/lib.rt:184:9
 returns : tie.Need-returns
 unfolding filter
 returns c =
     (simp (← c .before .before .before .value-at .ensures .0, c .before .enum-told .given .1, c .past-value .ensures), rw (c .past-value .ensures, c .before .enum-told .given .1) tt)
 
--- src/lib.rt:186:27
 sub-judge-filters : tie.Need-sub-judge-filters
 sub-judge-filters c =
     let i = rw (c .before .v .given .1) at (c .before .before .before .value-at .ensures .1) in
     omega (arith, i)
 
--- src/lib.rt:186:27
 part-judge-filters-start : tie.Need-part-judge-filters-start
 part-judge-filters-start c =
     let i = rw (c .before .v .given .1) at (c .before .before .before .value-at .ensures .1) in
     omega (arith, i)
 
--- src/lib.rt:186:27
 part-judge-filters-end : tie.Need-part-judge-filters-end
 part-judge-filters-end c =
     let i = rw (c .before .v .given .1) at (c .before .before .before .value-at .ensures .1) in
     omega (arith, i)
 
--- src/lib.rt:186:9
 judge-filters-requires : tie.Need-judge-filters-requires
 judge-filters-requires c κs = search needs
 
--- src/lib.rt:187:5
 past-elements-requires : tie.Need-past-elements-requires
 past-elements-requires c κs =
     let i = rw (c .before .before .before .v .given .1) at (c .before .before .before .before .before .value-at .ensures .1) in
     let d = c .before .before .before .v .given .0 .1 .1 in
     (i .1, rw (length-part (c .before .before .before .before .before .before .before .args .block .now) (d .0) (d .1 .0) (i .1) (i .2)) at (c .judge-filters .ensures .1))
 
--- src/lib.rt:172:1
 returns-2 : tie.Need-returns-2
 unfolding filter
 returns-2 c =

@@ -14,23 +14,18 @@ use Rattle.site.proofs.past_value.Reads as past-value-reads
 use Rattle.values.proofs.key_at.Reads as key-at-reads
 use Rattle.vectors.proofs.sound_value_at.Reads as sound-value-at-reads
 
--- src/lib.rt:205:9
 key-at-requires : tie.Need-key-at-requires
 key-at-requires c κs = search needs
 
--- src/lib.rt:206:33
 enum-known-k : tie.Need-enum-known-k
 enum-known-k c = search needs
 
--- src/lib.rt:207:9
 enum-told : tie.Need-enum-told
 enum-told c = search needs
 
--- src/lib.rt:207:9
 past-key-requires : tie.Need-past-key-requires
 past-key-requires c κs = search needs
 
--- src/lib.rt:207:9
 -- fill: e4644693
 returns : tie.Need-returns
 unfolding info
@@ -42,15 +37,12 @@ returns c = (
   ) (search needs),
 )
 
--- src/lib.rt:209:16
 sound-value-at-requires : tie.Need-sound-value-at-requires
 sound-value-at-requires c κs = search needs
 
--- src/lib.rt:209:5
 past-value-requires : tie.Need-past-value-requires
 past-value-requires c κs = search needs
 
--- src/lib.rt:201:1
 returns-2 : tie.Need-returns-2
 unfolding info
 returns-2 c =

@@ -21,38 +21,30 @@ Inv-loop block from strings count left₀ at₀ left at =
 abbrev μ-loop : tie.MeasureT-loop
 μ-loop block from strings count left₀ at₀ left at = left
 
--- src/lib.rt:219:5
 loop-holds : tie.Need-loop-holds Inv-loop μ-loop
 loop-holds c = search needs
 
--- src/lib.rt:220:13
 info-at-requires : tie.Need-info-at-requires Inv-loop μ-loop
 info-at-requires c κs = search needs
 
--- src/lib.rt:221:22
 enum-known-i : tie.Need-enum-known-i Inv-loop μ-loop
 enum-known-i c = search needs
 
--- src/lib.rt:222:13
 enum-told : tie.Need-enum-told Inv-loop μ-loop
 enum-told c = search needs
 
--- src/lib.rt:222:13
 returns : tie.Need-returns Inv-loop μ-loop
 returns c =
     let l = c .before .before .before .before .loop in
     let r = c .before .before .info-at .ensures in
     (rw (l .inv .0, times-turn (info (c .before .before .before .before .before .before .args .strings)) _ _ _ (c .before .before .before .loop-test .taken), ← r .0, c .enum-told .given .1), rw (c .enum-told .given .1) tt)
 
--- src/lib.rt:225:9
 sub-left : tie.Need-sub-left Inv-loop μ-loop
 sub-left c = search needs
 
--- src/lib.rt:219:5
 loop-less : tie.Need-loop-less Inv-loop μ-loop
 loop-less c = search needs
 
--- src/lib.rt:219:5
 loop-again : tie.Need-loop-again Inv-loop μ-loop
 loop-again c =
     let l = c .before .before .before .before .before .loop in
@@ -60,7 +52,6 @@ loop-again c =
     let i = rw (c .before .i .given .1) at (c .before .before .before .info-at .ensures .1) in
     (l .inv .0 ∙ rw (times-turn (info (c .before .before .before .before .before .before .before .args .strings)) _ _ _ (c .before .before .before .before .loop-test .taken), ← c .before .before .before .info-at .ensures .0, c .before .i .given .1, drop-on (a .block .now) (l .at) (c .before .i .given .0 .0) (i .0)), omega (arith, i), omega (arith, i))
 
--- src/lib.rt:213:1
 returns-2 : tie.Need-returns-2 Inv-loop μ-loop
 unfolding times
 returns-2 c =

@@ -18,41 +18,33 @@ Inv-loop part at₀ at = (alleleBytes 0 part ≡ alleleBytes at (drop at part)) 
 abbrev μ-loop : tie.MeasureT-loop
 μ-loop part at₀ at = length part - at
 
--- src/lib.rt:58:5
 loop-holds : tie.Need-loop-holds Inv-loop μ-loop
 loop-holds c = search needs
 
--- src/lib.rt:59:17
 shared-slice-read-b : tie.Need-shared-slice-read-b Inv-loop μ-loop
 shared-slice-read-b c = search needs
 
--- src/lib.rt:61:13
 returns : tie.Need-returns Inv-loop μ-loop
 returns c =
     let l = c .before .before .before .loop in
     (rw (l .inv .0, alleleBytes-turn (c .before .before .before .before .args .part .now) (l .at) (c .before .before .loop-test .taken), lt-ltb _ _ (c .if1 .taken)), omega arith)
 
--- src/lib.rt:67:13
 returns-2 : tie.Need-returns-2 Inv-loop μ-loop
 returns-2 c =
     let l = c .before .before .before .before .loop in
     (rw (l .inv .0, alleleBytes-turn (c .before .before .before .before .before .args .part .now) (l .at) (c .before .before .before .loop-test .taken), le-ltb _ _ (c .before .if1 .left), lt-ltb _ _ (c .if2 .taken)), omega arith)
 
--- src/lib.rt:72:9
 add-at : tie.Need-add-at Inv-loop μ-loop
 add-at c = search needs
 
--- src/lib.rt:58:5
 loop-less : tie.Need-loop-less Inv-loop μ-loop
 loop-less c = search needs
 
--- src/lib.rt:58:5
 loop-again : tie.Need-loop-again Inv-loop μ-loop
 loop-again c =
     let l = c .before .before .before .before .loop in
     (l .inv .0 ∙ rw (alleleBytes-turn (c .before .before .before .before .before .args .part .now) (l .at) (c .before .before .before .loop-test .taken), le-ltb _ _ (c .before .if1 .left), le-ltb _ _ (c .if2 .left)), omega arith)
 
--- src/lib.rt:53:1
 returns-3 : tie.Need-returns-3 Inv-loop μ-loop
 returns-3 c =
     let l = c .before .loop in

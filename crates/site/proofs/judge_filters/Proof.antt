@@ -16,34 +16,27 @@ use Rattle.repeats.proofs.first_repeat.Reads as first-repeat-reads
 use Rattle.types.proofs.row_of.Reads as row-of-reads
 use Rattle.words.proofs.over.Reads as over-reads
 
--- src/lib.rt:126:9
 row-of-requires : tie.Need-row-of-requires
 row-of-requires c κs = search needs
 
--- src/lib.rt:128:41
 cast-over : tie.Need-cast-over
 cast-over c = search needs
 
--- src/lib.rt:128:9
 over-requires : tie.Need-over-requires
 over-requires c κs = search needs
 
--- src/lib.rt:129:9
 first-outside-requires : tie.Need-first-outside-requires
 first-outside-requires c κs = search needs
 
--- src/lib.rt:130:24
 cast-stop : tie.Need-cast-stop
 cast-stop c = search needs
 
--- src/lib.rt:130:16
 mul-stop : tie.Need-mul-stop
 mul-stop c =
     let o = c .before .before .row-of .ensures .1 .0 in
     let h = rw (← o) at (c .first-outside .ensures .1) in
     omega (arith, front-room (c .first-outside .result) (c .before .before .row-of .result .width) (length (c .before .before .before .before .args .part .now)) h)
 
--- src/lib.rt:131:39
 slice-aggregate-first-repeat : tie.Need-slice-aggregate-first-repeat
 slice-aggregate-first-repeat c =
     let v = c .before .before .before .before .before .args .part .now in
@@ -51,22 +44,18 @@ slice-aggregate-first-repeat c =
     let h = rw (← o) at (c .before .first-outside .ensures .1) in
     sym (length-take-le _ v (front-room (c .before .first-outside .result) (c .before .before .before .row-of .result .width) (length v) h))
 
--- src/lib.rt:131:9
 first-repeat-requires : tie.Need-first-repeat-requires
 first-repeat-requires c κs = search needs
 
--- src/lib.rt:135:28
 cast-t15 : tie.Need-cast-t15
 cast-t15 c = search needs
 
--- src/lib.rt:135:20
 mul-t16 : tie.Need-mul-t16
 mul-t16 c =
     let o = c .before .before .before .before .before .row-of .ensures .1 .0 in
     let h = rw (← o) at (c .before .before .before .first-outside .ensures .1) in
     omega (arith, front-room (c .before .first-repeat .result) (c .before .before .before .before .before .row-of .result .width) (length (c .before .before .before .before .before .before .before .args .part .now)) (omega (arith, h, c .if1 .taken)))
 
--- src/lib.rt:133:9
 returns : tie.Need-returns
 returns c =
     let a = c .before .before .before .before .before .before .before .args in
@@ -78,7 +67,6 @@ returns c =
     let h = rw (← o) at (k .ensures .1) in
     (sym (v ∙ rw (lt-ltb _ _ (c .if1 .taken))), front-room (r .result) w (length (a .part .now)) (omega (arith, h, c .if1 .taken)))
 
--- src/lib.rt:139:9
 returns-2 : tie.Need-returns-2
 returns-2 c =
     let a = c .before .before .before .before .before .before .before .before .args in
@@ -90,7 +78,6 @@ returns-2 c =
     let h = rw (← o) at (k .ensures .1) in
     (sym (v ∙ rw (le-ltb _ _ (c .before .if1 .left), lt-ltb _ _ (c .if2 .taken))), front-room (k .result) w (length (a .part .now)) h)
 
--- src/lib.rt:122:1
 returns-3 : tie.Need-returns-3
 returns-3 c =
     let a = c .before .before .before .before .before .before .before .before .args in

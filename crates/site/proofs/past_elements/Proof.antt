@@ -6,26 +6,21 @@ use Rattle.site.proofs.past_elements.Tie as tie
 use Rattle.site.proofs.past_elements.Reads as reads
 use Rattle.site.proofs.past_elements.Lts as lts
 
--- src/lib.rt:44:26
 enum-told : tie.Need-enum-told
 enum-told c = search needs
 
--- src/lib.rt:45:25
 enum-known-j : tie.Need-enum-known-j
 enum-known-j c = search needs
 
--- src/lib.rt:47:20
 add-t6 : tie.Need-add-t6
 add-t6 c =
     let i = rw (c .before .before .j .given .1) at (c .before .before .before .before .pre .1) in
     omega (arith, i)
 
--- src/lib.rt:39:1
 -- fill: 1f7f2c54
 returns : tie.Need-returns
 returns c = simp (c .enum-told .given .1)
 
--- src/lib.rt:39:1
 -- fill: 76417c92
 returns-2 : tie.Need-returns-2
 returns-2 c = simp (c .before .before .j .given .1)

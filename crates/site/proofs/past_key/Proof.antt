@@ -5,20 +5,16 @@ use Rattle.site.proofs.past_key.Tie as tie
 use Rattle.site.proofs.past_key.Reads as reads
 use Rattle.site.proofs.past_key.Lts as lts
 
--- src/lib.rt:195:33
 enum-known-k : tie.Need-enum-known-k
 enum-known-k c = search needs
 
--- src/lib.rt:196:26
 enum-known-k-2 : tie.Need-enum-known-k-2
 enum-known-k-2 c = search needs
 
--- src/lib.rt:191:1
 -- fill: af8e6a02
 returns : tie.Need-returns
 returns c = simp (c .before .k .given .1)
 
--- src/lib.rt:191:1
 -- fill: 9bcfd334
 returns-2 : tie.Need-returns-2
 returns-2 c = simp (c .before .k2 .given .1)

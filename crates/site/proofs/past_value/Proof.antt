@@ -5,20 +5,16 @@ use Rattle.site.proofs.past_value.Tie as tie
 use Rattle.site.proofs.past_value.Reads as reads
 use Rattle.site.proofs.past_value.Lts as lts
 
--- src/lib.rt:32:13
 enum-known-v : tie.Need-enum-known-v
 enum-known-v c = search needs
 
--- src/lib.rt:34:24
 enum-known-v-2 : tie.Need-enum-known-v-2
 enum-known-v-2 c = search needs
 
--- src/lib.rt:24:1
 -- fill: 47293c73
 returns : tie.Need-returns
 returns c = simp (c .before .v .given .1)
 
--- src/lib.rt:24:1
 -- fill: 518da703
 returns-2 : tie.Need-returns-2
 returns-2 c = simp (c .before .v2 .given .1)

@@ -17,23 +17,18 @@ use Rattle.site.proofs.infos_at.Reads as infos-at-reads
 use Rattle.site.proofs.past_value.Reads as past-value-reads
 use Rattle.vectors.proofs.sound_value_at.Reads as sound-value-at-reads
 
--- src/lib.rt:234:24
 sound-value-at-requires : tie.Need-sound-value-at-requires
 sound-value-at-requires c κs = search needs
 
--- src/lib.rt:234:9
 past-value-requires : tie.Need-past-value-requires
 past-value-requires c κs = search needs
 
--- src/lib.rt:235:18
 enum-known-i : tie.Need-enum-known-i
 enum-known-i c = search needs
 
--- src/lib.rt:236:9
 enum-told : tie.Need-enum-told
 enum-told c = search needs
 
--- src/lib.rt:236:9
 returns : tie.Need-returns
 unfolding site
 returns c =
@@ -45,19 +40,15 @@ returns c =
       c .enum-told .given .1,
     )
 
--- src/lib.rt:238:9
 alleles-at-requires : tie.Need-alleles-at-requires
 alleles-at-requires c κs = search needs
 
--- src/lib.rt:239:18
 enum-known-a : tie.Need-enum-known-a
 enum-known-a c = search needs
 
--- src/lib.rt:240:9
 enum-told-2 : tie.Need-enum-told-2
 enum-told-2 c = search needs
 
--- src/lib.rt:240:9
 returns-2 : tie.Need-returns-2
 unfolding site
 returns-2 c =
@@ -73,19 +64,15 @@ returns-2 c =
       c .enum-told2 .given .1,
     )
 
--- src/lib.rt:242:9
 filter-at-requires : tie.Need-filter-at-requires
 filter-at-requires c κs = search needs
 
--- src/lib.rt:243:18
 enum-known-f : tie.Need-enum-known-f
 enum-known-f c = search needs
 
--- src/lib.rt:244:9
 enum-told-3 : tie.Need-enum-told-3
 enum-told-3 c = search needs
 
--- src/lib.rt:244:9
 returns-3 : tie.Need-returns-3
 unfolding site
 returns-3 c =
@@ -105,19 +92,15 @@ returns-3 c =
       c .enum-told3 .given .1,
     )
 
--- src/lib.rt:246:9
 infos-at-requires : tie.Need-infos-at-requires
 infos-at-requires c κs = search needs
 
--- src/lib.rt:247:18
 enum-known-p : tie.Need-enum-known-p
 enum-known-p c = search needs
 
--- src/lib.rt:248:9
 enum-told-4 : tie.Need-enum-told-4
 enum-told-4 c = search needs
 
--- src/lib.rt:248:9
 returns-4 : tie.Need-returns-4
 unfolding site
 returns-4 c =
@@ -141,7 +124,6 @@ returns-4 c =
       c .enum-told4 .given .1,
     )
 
--- src/lib.rt:251:9
 returns-5 : tie.Need-returns-5
 unfolding site
 returns-5 c =
@@ -169,7 +151,6 @@ returns-5 c =
       le-leb _ _ (c .if1 .taken),
     )
 
--- src/lib.rt:231:1
 returns-6 : tie.Need-returns-6
 unfolding site
 returns-6 c =

@@ -7,17 +7,14 @@ use Rattle.stores.proofs.has_room.Tie as tie
 use Rattle.stores.proofs.has_room.Reads as reads
 use Rattle.stores.proofs.has_room.Lts as lts
 
--- src/lib.rt:13:9
 returns : tie.Need-returns
 returns c =
     sym (fits-short _ _ _ (omega arith))
 
--- src/lib.rt:16:9
 returns-2 : tie.Need-returns-2
 returns-2 c =
     sym (fits-short _ _ _ (omega arith))
 
--- src/lib.rt:9:1
 returns-3 : tie.Need-returns-3
 returns-3 c =
     sym (fits-room _ _ _ (omega arith))

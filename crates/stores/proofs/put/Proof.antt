@@ -21,61 +21,49 @@ abbrev μ-loop : tie.MeasureT-loop
 μ-loop buf₀ at part i₀ buf i =
     length part - i
 
--- src/lib.rt:14:9
 returns : tie.Need-returns Inv-loop μ-loop
 returns c =
     let a = c .before .args in
     let q : length (a .buf .now) < a .at + length (a .part .now) = omega arith in
     (sym (fits-short _ _ _ q), sym (filled-short _ _ _ q))
 
--- src/lib.rt:16:8
 sub-if2 : tie.Need-sub-if2 Inv-loop μ-loop
 sub-if2 c = search needs
 
--- src/lib.rt:17:9
 returns-2 : tie.Need-returns-2 Inv-loop μ-loop
 returns-2 c =
     let a = c .before .before .args in
     let q : length (a .buf .now) < a .at + length (a .part .now) = omega arith in
     (sym (fits-short _ _ _ q), sym (filled-short _ _ _ q))
 
--- src/lib.rt:20:5
 loop-holds : tie.Need-loop-holds Inv-loop μ-loop
 loop-holds c =
     (rw add-zero, refl, omega arith)
 
--- src/lib.rt:21:23
 shared-slice-read-buf : tie.Need-shared-slice-read-buf Inv-loop μ-loop
 shared-slice-read-buf c = search needs
 
--- src/lib.rt:21:13
 add-buf : tie.Need-add-buf Inv-loop μ-loop
 add-buf c = search needs
 
--- src/lib.rt:21:9
 slice-write-buf : tie.Need-slice-write-buf Inv-loop μ-loop
 slice-write-buf c = search needs
 
--- src/lib.rt:22:9
 add-i : tie.Need-add-i Inv-loop μ-loop
 add-i c = search needs
 
--- src/lib.rt:20:5
 loop-less : tie.Need-loop-less Inv-loop μ-loop
 loop-less c = search needs
 
--- src/lib.rt:20:5
 loop-again : tie.Need-loop-again Inv-loop μ-loop
 loop-again c =
     let l = c .before .before .loop in
     let a = c .before .before .before .before .before .args in
     (l .inv .0 ∙ sets-part (l .buf) (a .at) (a .part .now) (l .i) (c .before .loop-test .taken), rw length-set (l .inv .1), omega arith)
 
--- src/lib.rt:9:1
 same-length : tie.Need-same-length Inv-loop μ-loop
 same-length c = search needs
 
--- src/lib.rt:9:1
 returns-3 : tie.Need-returns-3 Inv-loop μ-loop
 returns-3 c =
     let l = c .before .loop in

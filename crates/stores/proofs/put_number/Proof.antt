@@ -22,59 +22,47 @@ abbrev μ-loop : tie.MeasureT-loop
 μ-loop buf₀ at width v left₀ rest₀ o₀ buf left rest o =
     left
 
--- src/lib.rt:33:9
 returns : tie.Need-returns Inv-loop μ-loop
 returns c =
     let a = c .before .args in
     let q : length (a .buf .now) < a .at + a .width = omega arith in
     (sym (fits-short _ _ _ q), sym (filled-short _ _ _ (rw (length-bytes (a .width) (a .v)) q)))
 
--- src/lib.rt:35:8
 sub-if2 : tie.Need-sub-if2 Inv-loop μ-loop
 sub-if2 c = search needs
 
--- src/lib.rt:36:9
 returns-2 : tie.Need-returns-2 Inv-loop μ-loop
 returns-2 c =
     let a = c .before .before .args in
     let q : length (a .buf .now) < a .at + a .width = omega arith in
     (sym (fits-short _ _ _ q), sym (filled-short _ _ _ (rw (length-bytes (a .width) (a .v)) q)))
 
--- src/lib.rt:41:5
 loop-holds : tie.Need-loop-holds Inv-loop μ-loop
 loop-holds c = search needs
 
--- src/lib.rt:42:18
 cast-buf : tie.Need-cast-buf Inv-loop μ-loop
 cast-buf c = search needs
 
--- src/lib.rt:42:9
 slice-write-buf : tie.Need-slice-write-buf Inv-loop μ-loop
 slice-write-buf c = search needs
 
--- src/lib.rt:44:9
 add-o : tie.Need-add-o Inv-loop μ-loop
 add-o c = search needs
 
--- src/lib.rt:45:9
 sub-left : tie.Need-sub-left Inv-loop μ-loop
 sub-left c = search needs
 
--- src/lib.rt:41:5
 loop-less : tie.Need-loop-less Inv-loop μ-loop
 loop-less c = search needs
 
--- src/lib.rt:41:5
 loop-again : tie.Need-loop-again Inv-loop μ-loop
 loop-again c =
     let l = c .before .loop in
     (l .inv .0 ∙ sets-bytes (l .buf) (l .o) (l .left) (l .rest) (c .loop-test .taken), rw length-set (l .inv .1), omega arith)
 
--- src/lib.rt:28:1
 same-length : tie.Need-same-length Inv-loop μ-loop
 same-length c = search needs
 
--- src/lib.rt:28:1
 returns-3 : tie.Need-returns-3 Inv-loop μ-loop
 unfolding bytes
 returns-3 c =

@@ -17,40 +17,32 @@ use Rattle.tally.proofs.without_all.Reads as without-all-reads
 use Rattle.types.proofs.row_of.Reads as row-of-reads
 use Rattle.values.proofs.has_room.Reads as has-room-reads
 
--- src/lib.rt:40:15
 cast-len : tie.Need-cast-len
 cast-len c = search needs
 
--- src/lib.rt:42:9
 without-all-requires : tie.Need-without-all-requires
 without-all-requires c κs = search needs
 
--- src/lib.rt:42:9
 returns : tie.Need-returns
 returns c =
     let a = c .before .before .before .before .args in
     rw (c .without-all .ensures, callsOf-none (a .gt) (a .people) (a .s .now) (c .before .if1 .taken))
 
--- src/lib.rt:44:9
 row-of-requires : tie.Need-row-of-requires
 row-of-requires c κs = search needs
 
--- src/lib.rt:45:13
 cast-w : tie.Need-cast-w
 cast-w c = search needs
 
--- src/lib.rt:46:17
 mul-count : tie.Need-mul-count
 mul-count c =
     let a = c .before .before .before .before .before .args in
     let q = prod {a = a .people} {b = a .gt .len} (2 ^ 32) (2 ^ 32) (omega arith) (omega arith) (omega arith) in
     omega arith
 
--- src/lib.rt:47:8
 has-room-requires : tie.Need-has-room-requires
 has-room-requires c κs = search needs
 
--- src/lib.rt:48:28
 mul-stop : tie.Need-mul-stop
 mul-stop c =
     let a = c .before .before .before .before .before .before .before .args in
@@ -58,7 +50,6 @@ mul-stop c =
     let h : a .gt .first + a .people * a .gt .len * w ≤ length (a .s .now) = leb-true _ _ (sym (c .before .has-room .ensures) ∙ c .if2 .taken) in
     omega arith
 
--- src/lib.rt:48:20
 add-stop : tie.Need-add-stop
 add-stop c =
     let a = c .before .before .before .before .before .before .before .args in
@@ -66,15 +57,12 @@ add-stop c =
     let h : a .gt .first + a .people * a .gt .len * w ≤ length (a .s .now) = leb-true _ _ (sym (c .before .has-room .ensures) ∙ c .if2 .taken) in
     omega arith
 
--- src/lib.rt:49:35
 sub-count-calls : tie.Need-sub-count-calls
 sub-count-calls c = search needs
 
--- src/lib.rt:49:35
 part-count-calls-start : tie.Need-part-count-calls-start
 part-count-calls-start c = search needs
 
--- src/lib.rt:49:35
 part-count-calls-end : tie.Need-part-count-calls-end
 part-count-calls-end c =
     let a = c .before .before .before .before .before .before .before .args in
@@ -82,47 +70,37 @@ part-count-calls-end c =
     let h : a .gt .first + a .people * a .gt .len * w ≤ length (a .s .now) = leb-true _ _ (sym (c .before .has-room .ensures) ∙ c .if2 .taken) in
     omega arith
 
--- src/lib.rt:49:9
 count-calls-requires : tie.Need-count-calls-requires
 count-calls-requires c κs = search needs
 
--- src/lib.rt:49:9
 returns-2 : tie.Need-returns-2
 returns-2 c =
     let a = c .before .before .before .before .before .before .before .before .before .args in
     rw (c .count-calls .ensures, callsOf-part (a .gt) (a .people) (a .s .now) (c .before .before .before .before .before .before .if1 .left), add-sub-cancel-left, c .before .before .before .before .before .row-of .ensures .1 .0)
 
--- src/lib.rt:52:35
 slice-aggregate-count-calls : tie.Need-slice-aggregate-count-calls
 slice-aggregate-count-calls c = search needs
 
--- src/lib.rt:52:9
 count-calls-requires-2 : tie.Need-count-calls-requires-2
 count-calls-requires-2 c κs = search needs
 
--- src/lib.rt:52:9
 returns-3 : tie.Need-returns-3
 returns-3 c =
     let a = c .before .before .before .before .before .before .before .before .before .before .args in
     rw (c .count-calls2 .ensures, callsOf-part (a .gt) (a .people) (a .s .now) (c .before .before .before .before .before .before .before .if1 .left), part-past (a .s .now) (a .gt .first) _ (c .before .before .if3 .taken))
 
--- src/lib.rt:54:24
 sub-count-calls-2 : tie.Need-sub-count-calls-2
 sub-count-calls-2 c = search needs
 
--- src/lib.rt:54:24
 part-count-calls-start-2 : tie.Need-part-count-calls-start-2
 part-count-calls-start-2 c = search needs
 
--- src/lib.rt:54:24
 part-count-calls-end-2 : tie.Need-part-count-calls-end-2
 part-count-calls-end-2 c = search needs
 
--- src/lib.rt:54:5
 count-calls-requires-3 : tie.Need-count-calls-requires-3
 count-calls-requires-3 c κs = search needs
 
--- src/lib.rt:35:1
 returns-4 : tie.Need-returns-4
 returns-4 c =
     let a = c .before .before .before .before .before .before .before .before .before .before .args in

@@ -6,11 +6,9 @@ use Rattle.tally.proofs.refused_tally.Reads as reads
 use Rattle.tally.proofs.refused_tally.Lts as lts
 use Rattle.tally.proofs.without_all.Reads as without-all-reads
 
--- src/lib.rt:63:16
 without-all-requires : tie.Need-without-all-requires
 without-all-requires c κs = search needs
 
--- src/lib.rt:58:1
 -- fill: dd1deb60
 returns : tie.Need-returns
 returns c = simp (c .without-all .ensures)

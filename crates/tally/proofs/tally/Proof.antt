@@ -11,37 +11,29 @@ use Rattle.tally.proofs.calls_of.Reads as calls-of-reads
 use Rattle.record.proofs.reading_refusal.Reads as reading-refusal-reads
 use Rattle.tally.proofs.refused_tally.Reads as refused-tally-reads
 
--- src/lib.rt:84:9
 read-requires : tie.Need-read-requires
 read-requires c κs = search needs
 
--- src/lib.rt:85:29
 enum-known-r : tie.Need-enum-known-r
 enum-known-r c = search needs
 
--- src/lib.rt:86:30
 enum-told : tie.Need-enum-told
 enum-told c = search needs
 
--- src/lib.rt:86:30
 reading-refusal-requires : tie.Need-reading-refusal-requires
 reading-refusal-requires c κs = search needs
 
--- src/lib.rt:86:9
 refused-tally-requires : tie.Need-refused-tally-requires
 refused-tally-requires c κs = search needs
 
--- src/lib.rt:86:9
 returns : tie.Need-returns
 unfolding tallied
 returns c =
     rw (c .refused-tally .ensures, c .before .reading-refusal .ensures, ← c .before .before .before .before .read .ensures .0, c .before .before .enum-told .given .1)
 
--- src/lib.rt:89:9
 refused-tally-requires-2 : tie.Need-refused-tally-requires-2
 refused-tally-requires-2 c κs = search needs
 
--- src/lib.rt:89:9
 -- fill: 221d6b4a
 returns-2 : tie.Need-returns-2
 unfolding tallied
@@ -53,11 +45,9 @@ returns-2 c =
       c .refused-tally2 .ensures,
     )
 
--- src/lib.rt:94:9
 calls-of-requires : tie.Need-calls-of-requires
 calls-of-requires c κs = search needs
 
--- src/lib.rt:81:1
 -- fill: ad8ac30e
 returns-3 : tie.Need-returns-3
 unfolding tallied

@@ -6,26 +6,22 @@ use Rattle.types.proofs.among.Tie as tie
 use Rattle.types.proofs.among.Reads as reads
 use Rattle.types.proofs.among.Lts as lts
 
--- src/lib.rt:178:9
 -- fill: c6b21389
 returns : tie.Need-returns
 unfolding marked
 returns c = simp (lt-ltb _ _ (c .if1 .taken))
 
--- src/lib.rt:181:9
 -- fill: 4ee43582
 returns-2 : tie.Need-returns-2
 unfolding marked
 returns-2 c = simp (le-ltb _ _ (c .before .if1 .left), lt-ltb _ _ (c .if2 .taken))
 
--- src/lib.rt:184:9
 -- fill: e1fbd89e
 returns-3 : tie.Need-returns-3
 unfolding marked
 returns-3 c =
     simp (le-ltb _ _ (c .before .before .if1 .left), le-ltb _ _ (c .before .if2 .left), eq-eqb _ _ (c .if3 .taken))
 
--- src/lib.rt:187:9
 -- fill: f20b96dc
 returns-4 : tie.Need-returns-4
 unfolding marked
@@ -37,7 +33,6 @@ returns-4 c =
       eq-eqb _ _ (c .if4 .taken),
     )
 
--- src/lib.rt:174:1
 -- fill: 2fba595e
 returns-5 : tie.Need-returns-5
 unfolding marked

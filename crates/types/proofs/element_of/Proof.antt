@@ -8,32 +8,26 @@ use Rattle.types.proofs.element_of.Reads as reads
 use Rattle.types.proofs.element_of.Lts as lts
 use Rattle.types.proofs.among.Reads as among-reads
 
--- src/lib.rt:197:9
 among-requires : tie.Need-among-requires
 among-requires c κs = search needs
 
--- src/lib.rt:197:9
 -- fill: 882bce65
 returns : tie.Need-returns
 unfolding kind
 returns c = simp (eq-eqb _ _ (c .before .if1 .taken), c .among .ensures)
 
--- src/lib.rt:200:9
 among-requires-2 : tie.Need-among-requires-2
 among-requires-2 c κs = search needs
 
--- src/lib.rt:200:9
 -- fill: c08927fa
 returns-2 : tie.Need-returns-2
 unfolding kind
 returns-2 c =
     simp (ne-eqb _ _ (c .before .before .if1 .left), eq-eqb _ _ (c .before .if2 .taken), c .among2 .ensures)
 
--- src/lib.rt:203:9
 among-requires-3 : tie.Need-among-requires-3
 among-requires-3 c κs = search needs
 
--- src/lib.rt:203:9
 -- fill: 5b269725
 returns-3 : tie.Need-returns-3
 unfolding kind
@@ -45,11 +39,9 @@ returns-3 c =
       c .among3 .ensures,
     )
 
--- src/lib.rt:206:9
 among-requires-4 : tie.Need-among-requires-4
 among-requires-4 c κs = search needs
 
--- src/lib.rt:206:9
 -- fill: 0b04ecb3
 returns-4 : tie.Need-returns-4
 unfolding kind
@@ -62,7 +54,6 @@ returns-4 c =
       c .among4 .ensures,
     )
 
--- src/lib.rt:210:13
 -- fill: f996b873
 returns-5 : tie.Need-returns-5
 unfolding kind
@@ -76,7 +67,6 @@ returns-5 c =
       eq-eqb _ _ (c .if6 .taken),
     )
 
--- src/lib.rt:212:9
 -- fill: 835c9a6b
 returns-6 : tie.Need-returns-6
 unfolding kind
@@ -90,7 +80,6 @@ returns-6 c =
       ne-eqb _ _ (c .if6 .left),
     )
 
--- src/lib.rt:193:1
 -- fill: f5cc07ec
 returns-7 : tie.Need-returns-7
 unfolding kind

@@ -6,26 +6,22 @@ use Rattle.types.proofs.narrowest_type.Tie as tie
 use Rattle.types.proofs.narrowest_type.Reads as reads
 use Rattle.types.proofs.narrowest_type.Lts as lts
 
--- src/lib.rt:255:9
 -- fill: 88b43f0c
 returns : tie.Need-returns
 unfolding narrowest
 returns c = simp (le-leb _ _ (c .if1 .taken))
 
--- src/lib.rt:258:9
 -- fill: 6c072913
 returns-2 : tie.Need-returns-2
 unfolding narrowest
 returns-2 c = simp (lt-leb _ _ (c .before .if1 .left), le-leb _ _ (c .if2 .taken))
 
--- src/lib.rt:261:9
 -- fill: b94d8931
 returns-3 : tie.Need-returns-3
 unfolding narrowest
 returns-3 c =
     simp (lt-leb _ _ (c .before .before .if1 .left), lt-leb _ _ (c .before .if2 .left), le-leb _ _ (c .if3 .taken))
 
--- src/lib.rt:264:9
 -- fill: 34741e76
 returns-4 : tie.Need-returns-4
 unfolding narrowest
@@ -37,7 +33,6 @@ returns-4 c =
       le-leb _ _ (c .if4 .taken),
     )
 
--- src/lib.rt:251:1
 -- fill: 07ec70a4
 returns-5 : tie.Need-returns-5
 unfolding narrowest

@@ -9,22 +9,18 @@ use Rattle.types.proofs.row_of.Tie as tie
 use Rattle.types.proofs.row_of.Reads as reads
 use Rattle.types.proofs.row_of.Lts as lts
 
--- src/lib.rt:144:16
 mul-result : tie.Need-mul-result
 mul-result c = search needs
 
--- src/lib.rt:144:16
 array-copy-out-result : tie.Need-array-copy-out-result
 array-copy-out-result c = search needs
 
--- src/lib.rt:144:9
 returns : tie.Need-returns
 unfolding rowOf widthOf
 returns c =
     let w = widths (c .before .before .args .code) in
     (refl, (refl, w .0, w .1))
 
--- src/lib.rt:139:1
 returns-2 : tie.Need-returns-2
 unfolding widthOf rowOf
 returns-2 c =

@@ -8,28 +8,23 @@ use Rattle.types.proofs.shown_bits.Reads as reads
 use Rattle.types.proofs.shown_bits.Lts as lts
 use Rattle.types.proofs.widen.Reads as widen-reads
 
--- src/lib.rt:242:9
 widen-requires : tie.Need-widen-requires
 widen-requires c κs = search needs
 
--- src/lib.rt:242:9
 -- fill: 6fed7076
 returns : tie.Need-returns
 unfolding shown
 returns c = simp (eq-eqb _ _ (c .before .if1 .taken), c .widen .ensures)
 
--- src/lib.rt:245:9
 widen-requires-2 : tie.Need-widen-requires-2
 widen-requires-2 c κs = search needs
 
--- src/lib.rt:245:9
 -- fill: 298810e5
 returns-2 : tie.Need-returns-2
 unfolding shown
 returns-2 c =
     simp (ne-eqb _ _ (c .before .before .if1 .left), eq-eqb _ _ (c .before .if2 .taken), c .widen2 .ensures)
 
--- src/lib.rt:238:1
 -- fill: 23c3d6d5
 returns-3 : tie.Need-returns-3
 unfolding shown

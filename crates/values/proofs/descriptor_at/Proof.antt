@@ -12,30 +12,24 @@ use Rattle.values.proofs.integer_refusal.Reads as integer-refusal-reads
 use Rattle.values.proofs.may_stand.Reads as may-stand-reads
 use Rattle.values.proofs.true_length.Reads as true-length-reads
 
--- src/lib.rt:171:9
 -- fill: 08c3e05f
 returns : tie.Need-returns
 unfolding described
 returns c =
     (rw (front (described _ _) _ _) (simp (le-leb _ _ (c .if1 .taken))), search needs)
 
--- src/lib.rt:176:13
 shared-slice-read-d : tie.Need-shared-slice-read-d
 shared-slice-read-d c = search needs
 
--- src/lib.rt:179:8
 may-stand-requires : tie.Need-may-stand-requires
 may-stand-requires c κs = search needs
 
--- src/lib.rt:183:22
 cast-t17 : tie.Need-cast-t17
 cast-t17 c = search needs
 
--- src/lib.rt:184:24
 add-t18 : tie.Need-add-t18
 add-t18 c = search needs
 
--- src/lib.rt:181:13
 -- fill: 05d9f17c
 returns-2 : tie.Need-returns-2
 unfolding described
@@ -49,27 +43,21 @@ returns-2 c = (
   search needs,
 )
 
--- src/lib.rt:187:36
 add-true-length : tie.Need-add-true-length
 add-true-length c = search needs
 
--- src/lib.rt:187:13
 true-length-requires : tie.Need-true-length-requires
 true-length-requires c κs = search needs
 
--- src/lib.rt:188:28
 enum-known-l : tie.Need-enum-known-l
 enum-known-l c = search needs
 
--- src/lib.rt:189:40
 enum-told : tie.Need-enum-told
 enum-told c = search needs
 
--- src/lib.rt:189:40
 integer-refusal-requires : tie.Need-integer-refusal-requires
 integer-refusal-requires c κs = search needs
 
--- src/lib.rt:189:13
 -- fill: 68e001e0
 returns-3 : tie.Need-returns-3
 unfolding described
@@ -86,7 +74,6 @@ returns-3 c = (
   search needs,
 )
 
--- src/lib.rt:191:9
 -- fill: f00ffb7e
 returns-4 : tie.Need-returns-4
 unfolding described
@@ -102,7 +89,6 @@ returns-4 c = (
   let i = rw (c .before .l .given .1) at (c .before .before .before .true-length .ensures .1) in (omega (arith, i), i .1),
 )
 
--- src/lib.rt:166:1
 -- fill: 79ef67d9
 returns-5 : tie.Need-returns-5
 unfolding described

@@ -5,20 +5,16 @@ use Rattle.values.proofs.descriptor_refusal.Tie as tie
 use Rattle.values.proofs.descriptor_refusal.Reads as reads
 use Rattle.values.proofs.descriptor_refusal.Lts as lts
 
--- src/lib.rt:62:14
 enum-told : tie.Need-enum-told
 enum-told c = search needs
 
--- src/lib.rt:66:29
 enum-known-d : tie.Need-enum-known-d
 enum-known-d c = search needs
 
--- src/lib.rt:54:1
 -- fill: 1f7f2c54
 returns : tie.Need-returns
 returns c = simp (c .enum-told .given .1)
 
--- src/lib.rt:54:1
 returns-2 : tie.Need-returns-2
 returns-2 c = search needs
 

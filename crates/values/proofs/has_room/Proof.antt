@@ -7,19 +7,15 @@ use Rattle.values.proofs.has_room.Tie as tie
 use Rattle.values.proofs.has_room.Reads as reads
 use Rattle.values.proofs.has_room.Lts as lts
 
--- src/lib.rt:208:9
 returns : tie.Need-returns
 returns c = fits-before _ _ _ _ (c .if1 .taken)
 
--- src/lib.rt:211:25
 div-result : tie.Need-div-result
 div-result c = search needs
 
--- src/lib.rt:211:9
 returns-2 : tie.Need-returns-2
 returns-2 c = fits-over _ _ _ _ (c .if2 .taken) (c .before .if1 .left)
 
--- src/lib.rt:204:1
 returns-3 : tie.Need-returns-3
 returns-3 c = let none = c .if2 .left in fits-none _ _ _ _ (omega arith) (c .before .if1 .left)
 

@@ -16,42 +16,33 @@ use Rattle.types.proofs.row_of.Reads as row-of-reads
 use Rattle.types.proofs.shown_bits.Reads as shown-bits-reads
 use Rattle.words.proofs.word.Reads as word-reads
 
--- src/lib.rt:76:9
 -- fill: 2ab43478
 returns : tie.Need-returns
 unfolding integer
 returns c =
     (rw (front (integer _ _) _ _, length-drop) (simp (le-leb _ _ (c .if1 .taken))), search needs)
 
--- src/lib.rt:78:13
 shared-slice-read-d : tie.Need-shared-slice-read-d
 shared-slice-read-d c = search needs
 
--- src/lib.rt:80:9
 row-of-requires : tie.Need-row-of-requires
 row-of-requires c κs = search needs
 
--- src/lib.rt:81:8
 allows-requires : tie.Need-allows-requires
 allows-requires c κs = search needs
 
--- src/lib.rt:83:25
 add-first : tie.Need-add-first
 add-first c = search needs
 
--- src/lib.rt:84:24
 sub-rest : tie.Need-sub-rest
 sub-rest c = search needs
 
--- src/lib.rt:85:21
 cast-w : tie.Need-cast-w
 cast-w c = search needs
 
--- src/lib.rt:87:69
 add-t22 : tie.Need-add-t22
 add-t22 c = search needs
 
--- src/lib.rt:87:17
 -- fill: b85ffad2
 returns-2 : tie.Need-returns-2
 unfolding integer
@@ -68,31 +59,24 @@ returns-2 c = (
   search needs,
 )
 
--- src/lib.rt:89:24
 add-stop : tie.Need-add-stop
 add-stop c = search needs
 
--- src/lib.rt:90:60
 sub-word : tie.Need-sub-word
 sub-word c = search needs
 
--- src/lib.rt:90:60
 part-word-start : tie.Need-part-word-start
 part-word-start c = search needs
 
--- src/lib.rt:90:60
 part-word-end : tie.Need-part-word-end
 part-word-end c = search needs
 
--- src/lib.rt:90:48
 word-requires : tie.Need-word-requires
 word-requires c κs = search needs
 
--- src/lib.rt:90:17
 shown-bits-requires : tie.Need-shown-bits-requires
 shown-bits-requires c κs = search needs
 
--- src/lib.rt:91:13
 returns-3 : tie.Need-returns-3
 unfolding integer
 returns-3 c = (
@@ -112,7 +96,6 @@ returns-3 c = (
   search needs,
 )
 
--- src/lib.rt:93:9
 -- fill: 18055a1d
 returns-4 : tie.Need-returns-4
 unfolding integer
@@ -127,7 +110,6 @@ returns-4 c = (
   search needs,
 )
 
--- src/lib.rt:71:1
 -- fill: f7899ff5
 returns-5 : tie.Need-returns-5
 unfolding integer

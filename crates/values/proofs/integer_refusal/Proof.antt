@@ -5,20 +5,16 @@ use Rattle.values.proofs.integer_refusal.Tie as tie
 use Rattle.values.proofs.integer_refusal.Reads as reads
 use Rattle.values.proofs.integer_refusal.Lts as lts
 
--- src/lib.rt:45:46
 enum-told : tie.Need-enum-told
 enum-told c = search needs
 
--- src/lib.rt:49:26
 enum-known-i : tie.Need-enum-known-i
 enum-known-i c = search needs
 
--- src/lib.rt:41:1
 -- fill: 1f7f2c54
 returns : tie.Need-returns
 returns c = simp (c .enum-told .given .1)
 
--- src/lib.rt:41:1
 returns-2 : tie.Need-returns-2
 returns-2 c = search needs
 

@@ -9,36 +9,29 @@ use Rattle.values.proofs.key_at.Lts as lts
 use Rattle.values.proofs.integer_at.Reads as integer-at-reads
 use Rattle.words.proofs.is_outside.Reads as is-outside-reads
 
--- src/lib.rt:139:9
 integer-at-requires : tie.Need-integer-at-requires
 integer-at-requires c κs = search needs
 
--- src/lib.rt:140:24
 enum-known-i : tie.Need-enum-known-i
 enum-known-i c = search needs
 
--- src/lib.rt:141:9
 enum-told : tie.Need-enum-told
 enum-told c = search needs
 
--- src/lib.rt:141:9
 -- fill: 0441be2a
 returns : tie.Need-returns
 unfolding keyed
 returns c =
     (simp (← c .before .before .integer-at .ensures .0, c .enum-told .given .1), search needs)
 
--- src/lib.rt:143:8
 is-outside-requires : tie.Need-is-outside-requires
 is-outside-requires c κs = search needs
 
--- src/lib.rt:146:20
 add-t9 : tie.Need-add-t9
 add-t9 c =
     let i = rw (c .before .before .before .i .given .1) at (c .before .before .before .before .before .integer-at .ensures .1) in
     omega (arith, i)
 
--- src/lib.rt:144:9
 -- fill: 45542fef
 returns-2 : tie.Need-returns-2
 unfolding keyed
@@ -52,7 +45,6 @@ returns-2 c = (
   search needs,
 )
 
--- src/lib.rt:135:1
 -- fill: f22e7cd8
 returns-3 : tie.Need-returns-3
 unfolding keyed

@@ -9,15 +9,12 @@ use Rattle.values.proofs.may_stand.Lts as lts
 use Rattle.types.proofs.allows.Reads as allows-reads
 use Rattle.types.proofs.row_of.Reads as row-of-reads
 
--- src/lib.rt:156:22
 row-of-requires : tie.Need-row-of-requires
 row-of-requires c κs = search needs
 
--- src/lib.rt:156:8
 allows-requires : tie.Need-allows-requires
 allows-requires c κs = search needs
 
--- src/lib.rt:158:13
 -- fill: 6459a350
 returns : tie.Need-returns
 unfolding mayStand
@@ -29,7 +26,6 @@ returns c =
       eq-eqb _ _ (c .if2 .taken),
     )
 
--- src/lib.rt:160:9
 -- fill: ca372424
 returns-2 : tie.Need-returns-2
 unfolding mayStand
@@ -41,7 +37,6 @@ returns-2 c =
       ne-eqb _ _ (c .if2 .left),
     )
 
--- src/lib.rt:153:1
 -- fill: 16a0e6b4
 returns-3 : tie.Need-returns-3
 unfolding mayStand

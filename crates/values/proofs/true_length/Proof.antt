@@ -8,26 +8,21 @@ use Rattle.values.proofs.true_length.Reads as reads
 use Rattle.values.proofs.true_length.Lts as lts
 use Rattle.values.proofs.integer_at.Reads as integer-at-reads
 
--- src/lib.rt:115:9
 integer-at-requires : tie.Need-integer-at-requires
 integer-at-requires c κs = search needs
 
--- src/lib.rt:116:24
 enum-known-i : tie.Need-enum-known-i
 enum-known-i c = search needs
 
--- src/lib.rt:117:9
 enum-told : tie.Need-enum-told
 enum-told c = search needs
 
--- src/lib.rt:117:9
 -- fill: 0441be2a
 returns : tie.Need-returns
 unfolding trueLength
 returns c =
     (simp (← c .before .before .integer-at .ensures .0, c .enum-told .given .1), search needs)
 
--- src/lib.rt:120:9
 -- fill: 06ec27c6
 returns-2 : tie.Need-returns-2
 unfolding trueLength
@@ -36,7 +31,6 @@ returns-2 c = (
   search needs,
 )
 
--- src/lib.rt:123:9
 -- fill: 6d18d064
 returns-3 : tie.Need-returns-3
 unfolding trueLength
@@ -50,7 +44,6 @@ returns-3 c = (
   search needs,
 )
 
--- src/lib.rt:111:1
 -- fill: a774c9ce
 returns-4 : tie.Need-returns-4
 unfolding trueLength

@@ -17,23 +17,18 @@ use Rattle.values.proofs.descriptor_at.Reads as descriptor-at-reads
 use Rattle.values.proofs.descriptor_refusal.Reads as descriptor-refusal-reads
 use Rattle.values.proofs.has_room.Reads as has-room-reads
 
--- src/lib.rt:221:9
 descriptor-at-requires : tie.Need-descriptor-at-requires
 descriptor-at-requires c κs = search needs
 
--- src/lib.rt:222:29
 enum-known-d : tie.Need-enum-known-d
 enum-known-d c = search needs
 
--- src/lib.rt:223:31
 enum-told : tie.Need-enum-told
 enum-told c = search needs
 
--- src/lib.rt:223:31
 descriptor-refusal-requires : tie.Need-descriptor-refusal-requires
 descriptor-refusal-requires c κs = search needs
 
--- src/lib.rt:223:9
 -- fill: 8fa8fc0e
 returns : tie.Need-returns
 unfolding present
@@ -42,29 +37,23 @@ returns c = (
   search needs,
 )
 
--- src/lib.rt:226:36
 cast-count : tie.Need-cast-count
 cast-count c = search needs
 
--- src/lib.rt:226:17
 mul-count : tie.Need-mul-count
 mul-count c =
     let q = prod {a = c .before .before .before .before .before .args .vectors} {b = c .before .d .given .0 .1 .0} (2 ^ 32) (2 ^ 32) (omega arith) (omega arith) (omega arith) in
     omega arith
 
--- src/lib.rt:227:9
 row-of-requires : tie.Need-row-of-requires
 row-of-requires c κs = search needs
 
--- src/lib.rt:228:13
 cast-w : tie.Need-cast-w
 cast-w c = search needs
 
--- src/lib.rt:229:8
 has-room-requires : tie.Need-has-room-requires
 has-room-requires c κs = tt
 
--- src/lib.rt:230:65
 mul-t17 : tie.Need-mul-t17
 mul-t17 c =
     let a = c .before .before .before .before .before .before .before .before .before .args in
@@ -73,7 +62,6 @@ mul-t17 c =
     let h : d .1 .1 .0 + a .vectors * d .1 .0 * w ≤ length (a .block .now) = leb-true _ _ (sym (c .before .has-room .ensures) ∙ c .if1 .taken) in
     omega arith
 
--- src/lib.rt:230:57
 add-t18 : tie.Need-add-t18
 add-t18 c =
     let a = c .before .before .before .before .before .before .before .before .before .args in
@@ -82,7 +70,6 @@ add-t18 c =
     let h : d .1 .1 .0 + a .vectors * d .1 .0 * w ≤ length (a .block .now) = leb-true _ _ (sym (c .before .has-room .ensures) ∙ c .if1 .taken) in
     omega arith
 
--- src/lib.rt:230:9
 returns-2 : tie.Need-returns-2
 returns-2 c =
     let a = c .before .before .before .before .before .before .before .before .before .args in
@@ -101,7 +88,6 @@ returns-2 c =
       (i .0, omega arith, h),
     )
 
--- src/lib.rt:217:1
 returns-3 : tie.Need-returns-3
 returns-3 c =
     let a = c .before .before .before .before .before .before .before .before .before .args in

@@ -5,7 +5,6 @@ use Rattle.vectors.proofs.both.Tie as tie
 use Rattle.vectors.proofs.both.Reads as reads
 use Rattle.vectors.proofs.both.Lts as lts
 
--- src/lib.rt:117:1
 returns : tie.Need-returns
 returns c =
     and-pick (c .args .a) (c .args .b)

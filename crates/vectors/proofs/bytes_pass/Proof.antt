@@ -26,42 +26,33 @@ abbrev μ-loop : tie.MeasureT-loop
 μ-loop part from count low high missing most left₀ at₀ good₀ left at good =
     left
 
--- src/lib.rt:139:5
 loop-holds : tie.Need-loop-holds Inv-loop μ-loop
 loop-holds c = search needs
 
--- src/lib.rt:140:65
 shared-slice-read-passes-byte : tie.Need-shared-slice-read-passes-byte Inv-loop μ-loop
 shared-slice-read-passes-byte c = search needs
 
--- src/lib.rt:140:27
 passes-byte-requires : tie.Need-passes-byte-requires Inv-loop μ-loop
 passes-byte-requires c κs = search needs
 
--- src/lib.rt:140:9
 both-requires : tie.Need-both-requires Inv-loop μ-loop
 both-requires c κs = search needs
 
--- src/lib.rt:141:9
 add-at : tie.Need-add-at Inv-loop μ-loop
 add-at c = search needs
 
--- src/lib.rt:142:9
 sub-left : tie.Need-sub-left Inv-loop μ-loop
 sub-left c = search needs
 
--- src/lib.rt:139:5
 loop-less : tie.Need-loop-less Inv-loop μ-loop
 loop-less c = search needs
 
--- src/lib.rt:139:5
 loop-again : tie.Need-loop-again Inv-loop μ-loop
 loop-again c =
     let l = c .before .before .before .before .loop in
     let h = c .before .before .before .loop-test .taken in
     (l .inv .0 ∙ rw (sweep-turn _ _ _ _ _ 1 _ _ _ h, ← byte-at _ _, ← c .before .passes-byte .ensures, ← c .both .ensures), room _ _ _ _ h (l .inv .1))
 
--- src/lib.rt:124:1
 returns : tie.Need-returns Inv-loop μ-loop
 unfolding allPassed numbers
 returns c =

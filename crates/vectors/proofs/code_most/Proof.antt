@@ -8,25 +8,20 @@ use Rattle.vectors.proofs.code_most.Reads as reads
 use Rattle.vectors.proofs.code_most.Lts as lts
 use Rattle.vectors.proofs.highest_of.Reads as highest-of-reads
 
--- src/lib.rt:134:9
 highest-of-requires : tie.Need-highest-of-requires
 highest-of-requires c κs = search needs
 
--- src/lib.rt:136:16
 mul-result : tie.Need-mul-result
 mul-result c = search needs
 
--- src/lib.rt:136:16
 add-result : tie.Need-add-result
 add-result c = search needs
 
--- src/lib.rt:136:9
 -- fill: a9f302d2
 returns : tie.Need-returns
 unfolding codeMost
 returns c = simp (← c .before .highest-of .ensures, lt-ltb _ _ (c .if1 .taken))
 
--- src/lib.rt:131:1
 -- fill: e808d866
 returns-2 : tie.Need-returns-2
 unfolding codeMost

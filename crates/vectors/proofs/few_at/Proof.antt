@@ -13,28 +13,23 @@ use Rattle.vectors.proofs.few_at.Lts as lts
 use Rattle.vectors.proofs.is_plain.Reads as is-plain-reads
 use Rattle.vectors.proofs.vectors_at.Reads as vectors-at-reads
 
--- src/lib.rt:277:41
 mul-is-plain : tie.Need-mul-is-plain
 mul-is-plain c =
     let a = c .before .args in
     let q : a .count * (a .len * a .w) ≤ length (a .part .now) = omega arith in
     omega (arith, elements-fit _ _ _ _ (c .before .pre .4) q)
 
--- src/lib.rt:277:8
 is-plain-requires : tie.Need-is-plain-requires
 is-plain-requires c κs =
     let a = c .before .pre in rw (mul-assoc, ← a .3) (a .0)
 
--- src/lib.rt:278:9
 returns : tie.Need-returns
 returns c =
     (sym (vectors-on _ _ _ _ _ _ _ (rw (c .before .before .before .pre .3) (c .before .is-plain .ensures (c .if1 .taken)))), tt)
 
--- src/lib.rt:280:5
 vectors-at-requires : tie.Need-vectors-at-requires
 vectors-at-requires c κs = search needs
 
--- src/lib.rt:264:1
 returns-2 : tie.Need-returns-2
 returns-2 c = search needs
 

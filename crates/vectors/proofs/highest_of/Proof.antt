@@ -6,19 +6,16 @@ use Rattle.vectors.proofs.highest_of.Tie as tie
 use Rattle.vectors.proofs.highest_of.Reads as reads
 use Rattle.vectors.proofs.highest_of.Lts as lts
 
--- src/lib.rt:122:9
 -- fill: eaadfe61
 returns : tie.Need-returns
 unfolding highest
 returns c = simp (eq-eqb _ _ (c .if1 .taken))
 
--- src/lib.rt:125:9
 -- fill: 31729425
 returns-2 : tie.Need-returns-2
 unfolding highest
 returns-2 c = simp (ne-eqb _ _ (c .before .if1 .left), eq-eqb _ _ (c .if2 .taken))
 
--- src/lib.rt:118:1
 -- fill: 23c3d6d5
 returns-3 : tie.Need-returns-3
 unfolding highest

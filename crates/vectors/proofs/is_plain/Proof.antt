@@ -15,67 +15,54 @@ use Rattle.vectors.proofs.bytes_pass.Reads as bytes-pass-reads
 use Rattle.vectors.proofs.fours_pass.Reads as fours-pass-reads
 use Rattle.vectors.proofs.pairs_pass.Reads as pairs-pass-reads
 
--- src/lib.rt:219:64
 byte-most-requires : tie.Need-byte-most-requires
 byte-most-requires c κs = search needs
 
--- src/lib.rt:219:9
 bytes-pass-requires : tie.Need-bytes-pass-requires
 bytes-pass-requires c κs =
     rw (c .before .if1 .taken, width-1) at (c .before .before .before .pre)
 
--- src/lib.rt:219:9
 returns : tie.Need-returns
 returns c =
     let a = c .before .before .before .before .args in
     λ h. rw (c .before .before .if1 .taken, width-1) (all-more _ _ 1 (numbers 1 (a .count) (drop (a .from) (a .part .now))) (c .before .byte-most .ensures) (all-on 1 _ _ _ _ (on-1 _) _ (sym (c .bytes-pass .ensures) ∙ h)))
 
--- src/lib.rt:222:9
 pairs-pass-requires : tie.Need-pairs-pass-requires
 pairs-pass-requires c κs =
     rw (c .if2 .taken, width-2) at (c .before .before .before .pre)
 
--- src/lib.rt:222:9
 returns-2 : tie.Need-returns-2
 returns-2 c =
     λ h. rw (c .before .if2 .taken, width-2) (all-on 2 _ _ _ _ (on-2 _) _ (sym (c .pairs-pass .ensures) ∙ h))
 
--- src/lib.rt:225:9
 fours-pass-requires : tie.Need-fours-pass-requires
 fours-pass-requires c κs =
     rw (c .if3 .taken, width-3) at (c .before .before .before .before .pre)
 
--- src/lib.rt:225:9
 returns-3 : tie.Need-returns-3
 returns-3 c =
     λ h. rw (c .before .if3 .taken, width-3) (all-on 3 _ _ _ _ (on-3 _) _ (sym (c .fours-pass .ensures) ∙ h))
 
--- src/lib.rt:228:9
 fours-pass-requires-2 : tie.Need-fours-pass-requires-2
 fours-pass-requires-2 c κs =
     rw (c .if4 .taken, width-5) at (c .before .before .before .before .before .pre)
 
--- src/lib.rt:228:9
 returns-4 : tie.Need-returns-4
 returns-4 c =
     λ h. rw (c .before .if4 .taken, width-5) (all-on 5 _ _ _ _ (on-5 _) _ (sym (c .fours-pass2 .ensures) ∙ h))
 
--- src/lib.rt:231:55
 byte-most-requires-2 : tie.Need-byte-most-requires-2
 byte-most-requires-2 c κs = search needs
 
--- src/lib.rt:231:9
 bytes-pass-requires-2 : tie.Need-bytes-pass-requires-2
 bytes-pass-requires-2 c κs =
     rw (c .before .if5 .taken, width-7) at (c .before .before .before .before .before .before .before .pre)
 
--- src/lib.rt:231:9
 returns-5 : tie.Need-returns-5
 returns-5 c =
     let a = c .before .before .before .before .before .before .before .before .args in
     λ h. rw (c .before .before .if5 .taken, width-7) (all-more _ _ 7 (numbers 1 (a .count) (drop (a .from) (a .part .now))) (c .before .byte-most2 .ensures) (all-on 7 _ _ _ _ (on-7 _) _ (sym (c .bytes-pass2 .ensures) ∙ h)))
 
--- src/lib.rt:214:1
 returns-6 : tie.Need-returns-6
 returns-6 c =
     λ h. let z : _≡_ {A = ℕ} 0 1 = cc in absurd (omega arith)

@@ -25,26 +25,21 @@ abbrev μ-loop : tie.MeasureT-loop
 μ-loop part code len most w many left₀ at₀ left at =
     left
 
--- src/lib.rt:299:9
 row-of-requires : tie.Need-row-of-requires Inv-loop μ-loop
 row-of-requires c κs = search needs
 
 stretch-of-requires : tie.Need-stretch-of-requires Inv-loop μ-loop
 stretch-of-requires c κs = search needs
 
--- src/lib.rt:301:56
 cast-over : tie.Need-cast-over Inv-loop μ-loop
 cast-over c = search needs
 
--- src/lib.rt:301:32
 over-requires : tie.Need-over-requires Inv-loop μ-loop
 over-requires c κs = search needs
 
--- src/lib.rt:301:9
 over-requires-2 : tie.Need-over-requires-2 Inv-loop μ-loop
 over-requires-2 c κs = search needs
 
--- src/lib.rt:303:5
 loop-holds : tie.Need-loop-holds Inv-loop μ-loop
 unfolding judged
 loop-holds c = (
@@ -53,12 +48,10 @@ loop-holds c = (
   simp (← c .before .over .ensures .0, ← c .over2 .ensures .0) (omega arith),
 )
 
--- src/lib.rt:304:13
 together-requires : tie.Need-together-requires Inv-loop μ-loop
 together-requires c κs =
     (c .loop-test .taken, c .before .before .before .before .stretch-of .ensures)
 
--- src/lib.rt:305:13
 stretch-at-requires : tie.Need-stretch-at-requires Inv-loop μ-loop
 stretch-at-requires c κs =
     let w = c .before .before .before .before .before .before .row-of .ensures .1 in
@@ -68,53 +61,43 @@ stretch-at-requires c κs =
 enum-told : tie.Need-enum-told Inv-loop μ-loop
 enum-told c = search needs
 
--- src/lib.rt:307:13
 enum-told-2 : tie.Need-enum-told-2 Inv-loop μ-loop
 enum-told-2 c = search needs
 
--- src/lib.rt:307:13
 returns : tie.Need-returns Inv-loop μ-loop
 returns c =
     let l = c .before .before .before .before .before .loop in
     let r = c .before .before .stretch-at .ensures in
     (rw (l .inv .0, vectors-block _ _ _ _ _ _ _ _ (c .before .before .before .together .ensures .1), ← r .0, c .enum-told2 .given .1), r .1)
 
--- src/lib.rt:309:26
 cast-at : tie.Need-cast-at Inv-loop μ-loop
 cast-at c = search needs
 
--- src/lib.rt:309:20
 mul-at : tie.Need-mul-at Inv-loop μ-loop
 mul-at c =
     let k = c .before .before .before .together .ensures in
     omega (arith, block-one _ _ _ _ _ (k .0) (k .1) (c .before .before .before .before .before .loop .inv .1))
 
--- src/lib.rt:309:15
 mul-at-2 : tie.Need-mul-at-2 Inv-loop μ-loop
 mul-at-2 c =
     omega (arith, block-room _ _ _ _ _ (c .before .before .before .together .ensures .1) (c .before .before .before .before .before .loop .inv .1))
 
--- src/lib.rt:309:9
 add-at : tie.Need-add-at Inv-loop μ-loop
 add-at c =
     omega (arith, block-room _ _ _ _ _ (c .before .before .before .together .ensures .1) (c .before .before .before .before .before .loop .inv .1))
 
--- src/lib.rt:310:9
 sub-left : tie.Need-sub-left Inv-loop μ-loop
 sub-left c = search needs
 
--- src/lib.rt:303:5
 loop-less : tie.Need-loop-less Inv-loop μ-loop
 loop-less c = search needs
 
--- src/lib.rt:303:5
 loop-again : tie.Need-loop-again Inv-loop μ-loop
 loop-again c =
     let l = c .before .before .before .before .before .loop in
     let h = c .before .before .before .together .ensures .1 in
     (l .inv .0 ∙ rw (vectors-block _ _ _ _ _ _ _ _ h, ← c .before .before .stretch-at .ensures .0, c .enum-told .given .1), block-room _ _ _ _ _ h (l .inv .1), omega (arith, l .inv .2))
 
--- src/lib.rt:295:1
 returns-2 : tie.Need-returns-2 Inv-loop μ-loop
 unfolding vectors
 returns-2 c =

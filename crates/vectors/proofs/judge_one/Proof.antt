@@ -7,39 +7,31 @@ use Rattle.vectors.proofs.judge_one.Reads as reads
 use Rattle.vectors.proofs.judge_one.Lts as lts
 use Rattle.types.proofs.element_of.Reads as element-of-reads
 
--- src/lib.rt:29:9
 element-of-requires : tie.Need-element-of-requires
 element-of-requires c κs = search needs
 
--- src/lib.rt:31:30
 enum-told : tie.Need-enum-told
 enum-told c = search needs
 
--- src/lib.rt:32:25
 enum-told-2 : tie.Need-enum-told-2
 enum-told-2 c = search needs
 
--- src/lib.rt:34:16
 enum-told-3 : tie.Need-enum-told-3
 enum-told-3 c = search needs
 
--- src/lib.rt:35:17
 -- fill: c824b9c1
 returns : tie.Need-returns
 returns c =
     simp (← c .before .before .before .element-of .ensures, c .before .enum-told3 .given .1, c .if1 .taken)
 
--- src/lib.rt:40:16
 enum-told-4 : tie.Need-enum-told-4
 enum-told-4 c = search needs
 
--- src/lib.rt:41:17
 -- fill: 845a2333
 returns-2 : tie.Need-returns-2
 returns-2 c =
     simp (← c .before .before .before .element-of .ensures, c .before .enum-told4 .given .1, c .if2 .taken)
 
--- src/lib.rt:44:17
 -- fill: 28523b8d
 returns-3 : tie.Need-returns-3
 returns-3 c =
@@ -50,23 +42,19 @@ returns-3 c =
       lt-ltb _ _ (c .if3 .taken),
     )
 
--- src/lib.rt:26:1
 -- fill: 49ffab66
 returns-4 : tie.Need-returns-4
 returns-4 c = simp (← c .before .before .element-of .ensures, c .enum-told .given .1)
 
--- src/lib.rt:26:1
 -- fill: fcfb6a07
 returns-5 : tie.Need-returns-5
 returns-5 c = simp (← c .before .before .element-of .ensures, c .enum-told2 .given .1)
 
--- src/lib.rt:26:1
 -- fill: 3cc384a8
 returns-6 : tie.Need-returns-6
 returns-6 c =
     simp (← c .before .before .before .element-of .ensures, c .before .enum-told3 .given .1, c .if1 .left)
 
--- src/lib.rt:26:1
 -- fill: b75168e9
 returns-7 : tie.Need-returns-7
 returns-7 c =

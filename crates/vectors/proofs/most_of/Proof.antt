@@ -6,72 +6,55 @@ use Rattle.vectors.proofs.most_of.Reads as reads
 use Rattle.vectors.proofs.most_of.Lts as lts
 use Rattle.vectors.proofs.code_most.Reads as code-most-reads
 
--- src/lib.rt:146:20
 enum-told : tie.Need-enum-told
 enum-told c = search needs
 
--- src/lib.rt:146:20
 code-most-requires : tie.Need-code-most-requires
 code-most-requires c κs = search needs
 
--- src/lib.rt:147:20
 enum-told-2 : tie.Need-enum-told-2
 enum-told-2 c = search needs
 
--- src/lib.rt:148:24
 enum-told-3 : tie.Need-enum-told-3
 enum-told-3 c = search needs
 
--- src/lib.rt:149:24
 enum-told-4 : tie.Need-enum-told-4
 enum-told-4 c = search needs
 
--- src/lib.rt:150:21
 enum-told-5 : tie.Need-enum-told-5
 enum-told-5 c = search needs
 
--- src/lib.rt:151:24
 enum-told-6 : tie.Need-enum-told-6
 enum-told-6 c = search needs
 
--- src/lib.rt:152:22
 enum-told-7 : tie.Need-enum-told-7
 enum-told-7 c = search needs
 
--- src/lib.rt:153:24
 enum-told-8 : tie.Need-enum-told-8
 enum-told-8 c = search needs
 
--- src/lib.rt:142:1
 -- fill: 5c846266
 returns : tie.Need-returns
 returns c = simp (c .before .enum-told .given .1, c .code-most .ensures)
 
--- src/lib.rt:142:1
 returns-2 : tie.Need-returns-2
 returns-2 c = search needs
 
--- src/lib.rt:142:1
 returns-3 : tie.Need-returns-3
 returns-3 c = search needs
 
--- src/lib.rt:142:1
 returns-4 : tie.Need-returns-4
 returns-4 c = search needs
 
--- src/lib.rt:142:1
 returns-5 : tie.Need-returns-5
 returns-5 c = search needs
 
--- src/lib.rt:142:1
 returns-6 : tie.Need-returns-6
 returns-6 c = search needs
 
--- src/lib.rt:142:1
 returns-7 : tie.Need-returns-7
 returns-7 c = search needs
 
--- src/lib.rt:142:1
 returns-8 : tie.Need-returns-8
 returns-8 c = search needs
 

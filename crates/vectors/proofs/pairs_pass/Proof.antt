@@ -28,47 +28,36 @@ abbrev μ-loop : tie.MeasureT-loop
 μ-loop part from count low high missing most left₀ at₀ good₀ left at good =
     left
 
--- src/lib.rt:163:5
 loop-holds : tie.Need-loop-holds Inv-loop μ-loop
 loop-holds c = search needs
 
--- src/lib.rt:164:20
 add-stop : tie.Need-add-stop Inv-loop μ-loop
 add-stop c = search needs
 
--- src/lib.rt:167:58
 sub-word : tie.Need-sub-word Inv-loop μ-loop
 sub-word c = search needs
 
--- src/lib.rt:167:58
 part-word-start : tie.Need-part-word-start Inv-loop μ-loop
 part-word-start c = search needs
 
--- src/lib.rt:167:58
 part-word-end : tie.Need-part-word-end Inv-loop μ-loop
 part-word-end c = search needs
 
--- src/lib.rt:167:46
 word-requires : tie.Need-word-requires Inv-loop μ-loop
 word-requires c κs = search needs
 
--- src/lib.rt:167:13
 passes-requires : tie.Need-passes-requires Inv-loop μ-loop
 passes-requires c κs = search needs
 
--- src/lib.rt:165:9
 both-requires : tie.Need-both-requires Inv-loop μ-loop
 both-requires c κs = search needs
 
--- src/lib.rt:170:9
 sub-left : tie.Need-sub-left Inv-loop μ-loop
 sub-left c = search needs
 
--- src/lib.rt:163:5
 loop-less : tie.Need-loop-less Inv-loop μ-loop
 loop-less c = search needs
 
--- src/lib.rt:163:5
 loop-again : tie.Need-loop-again Inv-loop μ-loop
 loop-again c =
     let l = c .before .before .before .before .before .loop in
@@ -76,7 +65,6 @@ loop-again c =
     let e = c .before .before .word .ensures ∙ number-at (c .before .before .before .before .before .before .before .args .part .now) (l .at) 2 (omega arith) in
     (l .inv .0 ∙ rw (sweep-turn _ _ _ _ _ 2 _ _ _ h, ← e, ← c .before .passes .ensures, ← c .both .ensures), room _ _ _ _ h (l .inv .1))
 
--- src/lib.rt:148:1
 returns : tie.Need-returns Inv-loop μ-loop
 unfolding allPassed numbers
 returns c =

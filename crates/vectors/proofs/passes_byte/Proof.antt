@@ -6,19 +6,16 @@ use Rattle.vectors.proofs.passes_byte.Tie as tie
 use Rattle.vectors.proofs.passes_byte.Reads as reads
 use Rattle.vectors.proofs.passes_byte.Lts as lts
 
--- src/lib.rt:108:9
 returns : tie.Need-returns
 unfolding passed
 returns c =
     simp (lt-ltb _ _ (c .if1 .taken))
 
--- src/lib.rt:111:9
 returns-2 : tie.Need-returns-2
 unfolding passed
 returns-2 c =
     simp (le-ltb _ _ (c .before .if1 .left), lt-ltb _ _ (c .if2 .taken))
 
--- src/lib.rt:104:1
 returns-3 : tie.Need-returns-3
 unfolding passed
 returns-3 c =

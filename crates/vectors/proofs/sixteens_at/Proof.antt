@@ -21,17 +21,14 @@ abbrev μ-loop : tie.MeasureT-loop
 μ-loop part code w most len from count left₀ at₀ left at =
     left
 
--- src/lib.rt:302:5
 loop-holds : tie.Need-loop-holds Inv-loop μ-loop
 loop-holds c =
     search needs
 
--- src/lib.rt:303:13
 together-requires : tie.Need-together-requires Inv-loop μ-loop
 together-requires c κs =
     search needs
 
--- src/lib.rt:304:13
 few-at-requires : tie.Need-few-at-requires Inv-loop μ-loop
 few-at-requires c κs =
     let a = c .before .before .before .before .pre in
@@ -41,52 +38,43 @@ enum-told : tie.Need-enum-told Inv-loop μ-loop
 enum-told c =
     search needs
 
--- src/lib.rt:306:13
 enum-told-2 : tie.Need-enum-told-2 Inv-loop μ-loop
 enum-told-2 c =
     search needs
 
--- src/lib.rt:306:13
 returns : tie.Need-returns Inv-loop μ-loop
 returns c =
     let l = c .before .before .before .before .before .loop in
     let r = c .before .before .few-at .ensures in
     (rw (l .inv .0, vectors-block _ _ _ _ _ _ _ _ (c .before .before .before .together .ensures .1), ← r .0, c .enum-told2 .given .1), r .1)
 
--- src/lib.rt:308:20
 mul-at : tie.Need-mul-at Inv-loop μ-loop
 mul-at c =
     let k = c .before .before .before .together .ensures in
     omega (arith, block-one _ _ _ _ _ (k .0) (k .1) (c .before .before .before .before .before .loop .inv .1))
 
--- src/lib.rt:308:15
 mul-at-2 : tie.Need-mul-at-2 Inv-loop μ-loop
 mul-at-2 c =
     omega (arith, block-room _ _ _ _ _ (c .before .before .before .together .ensures .1) (c .before .before .before .before .before .loop .inv .1))
 
--- src/lib.rt:308:9
 add-at : tie.Need-add-at Inv-loop μ-loop
 add-at c =
     omega (arith, block-room _ _ _ _ _ (c .before .before .before .together .ensures .1) (c .before .before .before .before .before .loop .inv .1))
 
--- src/lib.rt:309:9
 sub-left : tie.Need-sub-left Inv-loop μ-loop
 sub-left c =
     search needs
 
--- src/lib.rt:302:5
 loop-less : tie.Need-loop-less Inv-loop μ-loop
 loop-less c =
     search needs
 
--- src/lib.rt:302:5
 loop-again : tie.Need-loop-again Inv-loop μ-loop
 loop-again c =
     let l = c .before .before .before .before .before .loop in
     let h = c .before .before .before .together .ensures .1 in
     (l .inv .0 ∙ rw (vectors-block _ _ _ _ _ _ _ _ h, ← c .before .before .few-at .ensures .0, c .enum-told .given .1), block-room _ _ _ _ _ h (l .inv .1))
 
--- src/lib.rt:287:1
 returns-2 : tie.Need-returns-2 Inv-loop μ-loop
 unfolding vectors
 returns-2 c =

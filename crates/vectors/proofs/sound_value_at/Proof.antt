@@ -12,64 +12,51 @@ use Rattle.values.proofs.value_at.Reads as value-at-reads
 use Rattle.vectors.proofs.judge.Reads as judge-reads
 use Rattle.vectors.proofs.most_of.Reads as most-of-reads
 
--- src/lib.rt:156:9
 value-at-requires : tie.Need-value-at-requires
 value-at-requires c κs = search needs
 
--- src/lib.rt:158:9
 enum-known-v : tie.Need-enum-known-v
 enum-known-v c = search needs
 
--- src/lib.rt:164:9
 enum-told : tie.Need-enum-told
 enum-told c = search needs
 
--- src/lib.rt:164:9
 -- fill: 6805ded5
 returns : tie.Need-returns
 unfolding sound
 returns c =
     (simp (← c .before .before .value-at .ensures .0, c .enum-told .given .1), search needs)
 
--- src/lib.rt:166:9
 most-of-requires : tie.Need-most-of-requires
 most-of-requires c κs = search needs
 
--- src/lib.rt:167:19
 sub-judge : tie.Need-sub-judge
 sub-judge c =
     let i = rw (c .before .before .v .given .1) at (c .before .before .before .before .value-at .ensures .1) in
     omega (arith, i)
 
--- src/lib.rt:167:19
 part-judge-start : tie.Need-part-judge-start
 part-judge-start c =
     let i = rw (c .before .before .v .given .1) at (c .before .before .before .before .value-at .ensures .1) in
     omega (arith, i)
 
--- src/lib.rt:167:19
 part-judge-end : tie.Need-part-judge-end
 part-judge-end c =
     let i = rw (c .before .before .v .given .1) at (c .before .before .before .before .value-at .ensures .1) in
     omega (arith, i)
 
--- src/lib.rt:167:46
 cast-judge : tie.Need-cast-judge
 cast-judge c = search needs
 
--- src/lib.rt:167:9
 judge-requires : tie.Need-judge-requires
 judge-requires c κs = search needs
 
--- src/lib.rt:168:25
 enum-known-j : tie.Need-enum-known-j
 enum-known-j c = search needs
 
--- src/lib.rt:169:9
 enum-told-2 : tie.Need-enum-told-2
 enum-told-2 c = search needs
 
--- src/lib.rt:169:9
 returns-2 : tie.Need-returns-2
 unfolding sound
 returns-2 c =
@@ -86,14 +73,12 @@ returns-2 c =
       i,
     )
 
--- src/lib.rt:173:16
 add-t15 : tie.Need-add-t15
 add-t15 c =
     let i = rw (c .before .before .before .before .before .before .before .before .v .given .1) at (c .before .before .before .before .before .before .before .before .before .before .value-at .ensures .1) in
     let j = rw (c .before .before .j .given .1, length-take) at (c .before .before .before .before .judge .ensures .1) in
     omega (arith, i, j)
 
--- src/lib.rt:152:1
 returns-3 : tie.Need-returns-3
 unfolding sound
 returns-3 c =

@@ -5,20 +5,16 @@ use Rattle.vectors.proofs.stop_at.Tie as tie
 use Rattle.vectors.proofs.stop_at.Reads as reads
 use Rattle.vectors.proofs.stop_at.Lts as lts
 
--- src/lib.rt:56:19
 enum-known-t : tie.Need-enum-known-t
 enum-known-t c = search needs
 
--- src/lib.rt:57:24
 enum-told : tie.Need-enum-told
 enum-told c = search needs
 
--- src/lib.rt:52:1
 -- fill: fd49b966
 returns : tie.Need-returns
 returns c = simp (c .before .t .given .1)
 
--- src/lib.rt:52:1
 returns-2 : tie.Need-returns-2
 returns-2 c = search needs
 

@@ -24,47 +24,36 @@ Inv-loop part code w most len from left₀ at₀ ended₀ left at ended =
 abbrev μ-loop : tie.MeasureT-loop
 μ-loop part code w most len from left₀ at₀ ended₀ left at ended = left
 
--- src/lib.rt:80:5
 loop-holds : tie.Need-loop-holds Inv-loop μ-loop
 loop-holds c = search needs
 
--- src/lib.rt:81:20
 add-stop : tie.Need-add-stop Inv-loop μ-loop
 add-stop c = omega (arith, room _ _ _ _ (c .loop-test .taken) (c .before .loop .inv .1))
 
--- src/lib.rt:82:58
 sub-word : tie.Need-sub-word Inv-loop μ-loop
 sub-word c = search needs
 
--- src/lib.rt:82:58
 part-word-start : tie.Need-part-word-start Inv-loop μ-loop
 part-word-start c = search needs
 
--- src/lib.rt:82:58
 part-word-end : tie.Need-part-word-end Inv-loop μ-loop
 part-word-end c = omega (arith, room _ _ _ _ (c .loop-test .taken) (c .before .loop .inv .1))
 
--- src/lib.rt:82:46
 word-requires : tie.Need-word-requires Inv-loop μ-loop
 word-requires c κs = search needs
 
--- src/lib.rt:82:13
 judge-one-requires : tie.Need-judge-one-requires Inv-loop μ-loop
 judge-one-requires c κs = search needs
 
--- src/lib.rt:83:22
 enum-known-t : tie.Need-enum-known-t Inv-loop μ-loop
 enum-known-t c = search needs
 
--- src/lib.rt:84:13
 enum-told : tie.Need-enum-told Inv-loop μ-loop
 enum-told c = search needs
 
--- src/lib.rt:84:13
 stop-at-requires : tie.Need-stop-at-requires Inv-loop μ-loop
 stop-at-requires c κs = search needs
 
--- src/lib.rt:84:13
 returns : tie.Need-returns Inv-loop μ-loop
 returns c =
     let l = c .before .before .before .before .before .before .before .loop in
@@ -74,15 +63,12 @@ returns c =
       rw (c .stop-at .ensures, c .before .enum-told .given .1) (omega arith),
     )
 
--- src/lib.rt:88:9
 sub-left : tie.Need-sub-left Inv-loop μ-loop
 sub-left c = search needs
 
--- src/lib.rt:80:5
 loop-less : tie.Need-loop-less Inv-loop μ-loop
 loop-less c = search needs
 
--- src/lib.rt:80:5
 loop-again : tie.Need-loop-again Inv-loop μ-loop
 loop-again c =
     let l = c .before .before .before .before .before .before .before .loop in
@@ -91,7 +77,6 @@ loop-again c =
     let e = c .before .before .before .before .word .ensures ∙ number-at (a .part .now) (l .at) (a .w) (c .before .before .before .before .before .before .before .before .before .pre .1) in
     (l .inv .0 ∙ rw (vector-turn _ _ _ _ _ _ _ h, ← e, ← c .before .before .before .judge-one .ensures, c .before .t .given .1), room _ _ _ _ h (l .inv .1))
 
--- src/lib.rt:72:1
 returns-2 : tie.Need-returns-2 Inv-loop μ-loop
 unfolding vector numbers
 returns-2 c =

@@ -21,11 +21,9 @@ abbrev μ-loop : tie.MeasureT-loop
 μ-loop part code w most len from count left₀ at₀ left at =
     left
 
--- src/lib.rt:252:5
 loop-holds : tie.Need-loop-holds Inv-loop μ-loop
 loop-holds c = search needs
 
--- src/lib.rt:253:13
 vector-at-requires : tie.Need-vector-at-requires Inv-loop μ-loop
 vector-at-requires c κs =
     let a = c .before .before .before .pre in
@@ -34,43 +32,35 @@ vector-at-requires c κs =
 enum-told : tie.Need-enum-told Inv-loop μ-loop
 enum-told c = search needs
 
--- src/lib.rt:255:13
 enum-told-2 : tie.Need-enum-told-2 Inv-loop μ-loop
 enum-told-2 c = search needs
 
--- src/lib.rt:255:13
 returns : tie.Need-returns Inv-loop μ-loop
 returns c =
     let l = c .before .before .before .before .loop in
     let r = c .before .before .vector-at .ensures in
     (rw (l .inv .0, vectors-turn _ _ _ _ _ _ _ (c .before .before .before .loop-test .taken), ← r .0, c .enum-told2 .given .1), r .1)
 
--- src/lib.rt:257:15
 mul-at : tie.Need-mul-at Inv-loop μ-loop
 mul-at c =
     omega (arith, room _ _ _ _ (c .before .before .before .loop-test .taken) (c .before .before .before .before .loop .inv .1))
 
--- src/lib.rt:257:9
 add-at : tie.Need-add-at Inv-loop μ-loop
 add-at c =
     omega (arith, room _ _ _ _ (c .before .before .before .loop-test .taken) (c .before .before .before .before .loop .inv .1))
 
--- src/lib.rt:258:9
 sub-left : tie.Need-sub-left Inv-loop μ-loop
 sub-left c = search needs
 
--- src/lib.rt:252:5
 loop-less : tie.Need-loop-less Inv-loop μ-loop
 loop-less c = search needs
 
--- src/lib.rt:252:5
 loop-again : tie.Need-loop-again Inv-loop μ-loop
 loop-again c =
     let l = c .before .before .before .before .loop in
     let h = c .before .before .before .loop-test .taken in
     (l .inv .0 ∙ rw (vectors-turn _ _ _ _ _ _ _ h, ← c .before .before .vector-at .ensures .0, c .enum-told .given .1), room _ _ _ _ h (l .inv .1))
 
--- src/lib.rt:237:1
 returns-2 : tie.Need-returns-2 Inv-loop μ-loop
 unfolding vectors
 returns-2 c =

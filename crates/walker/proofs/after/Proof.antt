@@ -5,20 +5,16 @@ use Rattle.walker.proofs.after.Tie as tie
 use Rattle.walker.proofs.after.Reads as reads
 use Rattle.walker.proofs.after.Lts as lts
 
--- src/lib.rt:67:58
 enum-known-p : tie.Need-enum-known-p
 enum-known-p c = search needs
 
--- src/lib.rt:68:22
 enum-told : tie.Need-enum-told
 enum-told c = search needs
 
--- src/lib.rt:63:1
 -- fill: 54d6a69d
 returns : tie.Need-returns
 returns c = simp (c .before .p .given .1)
 
--- src/lib.rt:63:1
 returns-2 : tie.Need-returns-2
 returns-2 c = search needs
 

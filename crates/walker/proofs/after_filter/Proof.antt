@@ -5,20 +5,16 @@ use Rattle.walker.proofs.after_filter.Tie as tie
 use Rattle.walker.proofs.after_filter.Reads as reads
 use Rattle.walker.proofs.after_filter.Lts as lts
 
--- src/lib.rt:111:13
 enum-known-f : tie.Need-enum-known-f
 enum-known-f c = search needs
 
--- src/lib.rt:113:30
 enum-told : tie.Need-enum-told
 enum-told c = search needs
 
--- src/lib.rt:102:1
 -- fill: 41cc6ba9
 returns : tie.Need-returns
 returns c = simp (c .before .f .given .1)
 
--- src/lib.rt:102:1
 -- fill: 1f7f2c54
 returns-2 : tie.Need-returns-2
 returns-2 c = simp (c .enum-told .given .1)

@@ -5,20 +5,16 @@ use Rattle.walker.proofs.as_pair.Tie as tie
 use Rattle.walker.proofs.as_pair.Reads as reads
 use Rattle.walker.proofs.as_pair.Lts as lts
 
--- src/lib.rt:41:13
 enum-known-f : tie.Need-enum-known-f
 enum-known-f c = search needs
 
--- src/lib.rt:53:30
 enum-told : tie.Need-enum-told
 enum-told c = search needs
 
--- src/lib.rt:36:1
 -- fill: 41cc6ba9
 returns : tie.Need-returns
 returns c = simp (c .before .f .given .1)
 
--- src/lib.rt:36:1
 returns-2 : tie.Need-returns-2
 returns-2 c = search needs
 

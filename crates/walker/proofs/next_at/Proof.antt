@@ -7,15 +7,12 @@ use Rattle.walker.proofs.next_at.Lts as lts
 use Rattle.walker.proofs.after.Reads as after-reads
 use Rattle.walker.proofs.pair_at.Reads as pair-at-reads
 
--- src/lib.rt:75:11
 pair-at-requires : tie.Need-pair-at-requires
 pair-at-requires c κs = search needs
 
--- src/lib.rt:75:5
 after-requires : tie.Need-after-requires
 after-requires c κs = search needs
 
--- src/lib.rt:72:1
 returns : tie.Need-returns
 returns c = simp (← c .before .pair-at .ensures, c .after .ensures)
 

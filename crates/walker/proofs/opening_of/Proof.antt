@@ -10,38 +10,30 @@ use Rattle.record.proofs.read.Reads as read-reads
 use Rattle.record.proofs.reading_refusal.Reads as reading-refusal-reads
 use Rattle.walker.proofs.after_filter.Reads as after-filter-reads
 
--- src/lib.rt:121:9
 read-requires : tie.Need-read-requires
 read-requires c κs = search needs
 
--- src/lib.rt:122:29
 enum-known-r : tie.Need-enum-known-r
 enum-known-r c = search needs
 
--- src/lib.rt:123:33
 enum-told : tie.Need-enum-told
 enum-told c = search needs
 
--- src/lib.rt:123:33
 reading-refusal-requires : tie.Need-reading-refusal-requires
 reading-refusal-requires c κs = search needs
 
--- src/lib.rt:123:9
 -- fill: 95c1e854
 returns : tie.Need-returns
 unfolding opened
 returns c =
     simp (← c .before .before .before .read .ensures .0, c .before .enum-told .given .1, c .reading-refusal .ensures)
 
--- src/lib.rt:125:31
 field-of-requires : tie.Need-field-of-requires
 field-of-requires c κs = search needs
 
--- src/lib.rt:125:5
 after-filter-requires : tie.Need-after-filter-requires
 after-filter-requires c κs = search needs
 
--- src/lib.rt:118:1
 -- fill: bd689f24
 returns-2 : tie.Need-returns-2
 unfolding opened

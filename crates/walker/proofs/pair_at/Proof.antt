@@ -13,39 +13,31 @@ use Rattle.walker.proofs.pair_at.Lts as lts
 use Rattle.walker.proofs.pair_in.Reads as pair-in-reads
 use Rattle.words.proofs.word_at.Reads as word-at-reads
 
--- src/lib.rt:69:9
 returns : tie.Need-returns
 unfolding pairAt
 returns c = rw (lt-ltb _ _ (c .if1 .taken))
 
--- src/lib.rt:71:19
 word-at-requires : tie.Need-word-at-requires
 word-at-requires c κs = search needs
 
--- src/lib.rt:71:19
 cast-end : tie.Need-cast-end
 cast-end c = search needs
 
--- src/lib.rt:71:15
 add-end : tie.Need-add-end
 add-end c = search needs
 
--- src/lib.rt:73:9
 returns-2 : tie.Need-returns-2
 unfolding pairAt
 returns-2 c =
     let e = c .before .word-at .ensures ∙ number-part 4 (c .before .before .before .before .args .s .now) (omega arith) in
     rw (le-ltb _ _ (c .before .before .if1 .left), ← e, lt-ltb _ _ (c .if2 .taken))
 
--- src/lib.rt:75:13
 slice-aggregate-pair-in : tie.Need-slice-aggregate-pair-in
 slice-aggregate-pair-in c = sym (length-take-le _ _ (c .before .if2 .left))
 
--- src/lib.rt:75:5
 pair-in-requires : tie.Need-pair-in-requires
 pair-in-requires c κs = search needs
 
--- src/lib.rt:65:1
 returns-3 : tie.Need-returns-3
 unfolding pairAt
 returns-3 c =

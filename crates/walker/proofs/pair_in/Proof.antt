@@ -8,15 +8,12 @@ use Rattle.walker.proofs.pair_in.Lts as lts
 use Rattle.fetch.proofs.field_at.Reads as field-at-reads
 use Rattle.walker.proofs.as_pair.Reads as as-pair-reads
 
--- src/lib.rt:61:13
 field-at-requires : tie.Need-field-at-requires
 field-at-requires c κs = search needs
 
--- src/lib.rt:61:5
 as-pair-requires : tie.Need-as-pair-requires
 as-pair-requires c κs = search needs
 
--- src/lib.rt:58:1
 -- fill: 2cb8a531
 returns : tie.Need-returns
 unfolding pairIn

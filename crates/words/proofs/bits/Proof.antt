@@ -8,7 +8,6 @@ use Rattle.words.proofs.bits.Tie as tie
 use Rattle.words.proofs.bits.Reads as reads
 use Rattle.words.proofs.bits.Lts as lts
 
--- src/lib.rt:24:9
 cast-result : tie.Need-cast-result
 cast-result c =
     let z = c .before .args .z in
@@ -16,7 +15,6 @@ cast-result c =
     let h = rw (back z f) at (c .if1 .taken) in
     rw (back z f) (up z f h)
 
--- src/lib.rt:26:10
 cast-result-2 : tie.Need-cast-result-2
 cast-result-2 c =
     let z = c .before .args .z in
@@ -25,7 +23,6 @@ cast-result-2 c =
     let k = down-fits z f h in
     rw (back z f) (sfits-widen {w = w32} {w′ = w64} {z = z} tt f)
 
--- src/lib.rt:26:10
 add-result : tie.Need-add-result
 add-result c =
     let z = c .before .args .z in
@@ -34,7 +31,6 @@ add-result c =
     let k = down-fits z f h in
     rw (back-wide z f, down z f h) (record { sfits = omega arith })
 
--- src/lib.rt:26:9
 cast-result-3 : tie.Need-cast-result-3
 cast-result-3 c =
     let z = c .before .args .z in
@@ -43,7 +39,6 @@ cast-result-3 c =
     let k = down-fits z f h in
     rw (back-wide z f, down z f h, back-64 _ k) (tt, record { fits = k })
 
--- src/lib.rt:20:1
 returns : tie.Need-returns
 returns c =
     let z = c .before .args .z in
@@ -51,7 +46,6 @@ returns c =
     let h = rw (back z f) at (c .if1 .taken) in
     rw (back z f) (up-bits z h)
 
--- src/lib.rt:20:1
 returns-2 : tie.Need-returns-2
 returns-2 c =
     let z = c .before .args .z in

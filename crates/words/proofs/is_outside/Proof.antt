@@ -6,13 +6,11 @@ use Rattle.words.proofs.is_outside.Tie as tie
 use Rattle.words.proofs.is_outside.Reads as reads
 use Rattle.words.proofs.is_outside.Lts as lts
 
--- src/lib.rt:116:9
 -- fill: 88b43f0c
 returns : tie.Need-returns
 unfolding outside
 returns c = simp (le-leb _ _ (c .if1 .taken))
 
--- src/lib.rt:112:1
 -- fill: 18f86f45
 returns-2 : tie.Need-returns-2
 unfolding outside

@@ -9,79 +9,62 @@ use Rattle.words.proofs.word.Lts as lts
 use Rattle.words.proofs.pair.Reads as pair-reads
 use Rattle.words.proofs.wide.Reads as wide-reads
 
--- src/lib.rt:30:21
 shared-slice-read-wide : tie.Need-shared-slice-read-wide
 shared-slice-read-wide c = search needs
 
--- src/lib.rt:30:9
 wide-requires : tie.Need-wide-requires
 wide-requires c κs = search needs
 
--- src/lib.rt:30:9
 returns : tie.Need-returns
 returns c =
     let p = c .before .before .before .before .args .part .now in
     omega (arith, number-four p, past p 1 (omega arith), past p 2 (omega arith), past p 3 (omega arith))
 
--- src/lib.rt:33:9
 pair-requires : tie.Need-pair-requires
 pair-requires c κs = search needs
 
--- src/lib.rt:33:9
 returns-2 : tie.Need-returns-2
 returns-2 c =
     let p = c .before .before .before .before .args .part .now in
     omega (arith, number-four p, past p 2 (omega arith), past p 3 (omega arith))
 
--- src/lib.rt:36:16
 pair-requires-2 : tie.Need-pair-requires-2
 pair-requires-2 c κs = search needs
 
--- src/lib.rt:36:32
 pair-requires-3 : tie.Need-pair-requires-3
 pair-requires-3 c κs = search needs
 
--- src/lib.rt:36:32
 mul-result : tie.Need-mul-result
 mul-result c = search needs
 
--- src/lib.rt:36:16
 add-result : tie.Need-add-result
 add-result c = search needs
 
--- src/lib.rt:36:9
 returns-3 : tie.Need-returns-3
 returns-3 c =
     let p = c .before .before .before .before .before .before .args .part .now in
     omega (arith, number-four p)
 
--- src/lib.rt:39:16
 pair-requires-4 : tie.Need-pair-requires-4
 pair-requires-4 c κs = search needs
 
--- src/lib.rt:39:37
 shared-slice-read-wide-2 : tie.Need-shared-slice-read-wide-2
 shared-slice-read-wide-2 c = search needs
 
--- src/lib.rt:39:32
 wide-requires-2 : tie.Need-wide-requires-2
 wide-requires-2 c κs = search needs
 
--- src/lib.rt:39:32
 mul-result-2 : tie.Need-mul-result-2
 mul-result-2 c = search needs
 
--- src/lib.rt:39:16
 add-result-2 : tie.Need-add-result-2
 add-result-2 c = search needs
 
--- src/lib.rt:39:9
 returns-4 : tie.Need-returns-4
 returns-4 c =
     let p = c .before .before .before .before .before .before .before .before .args .part .now in
     omega (arith, number-four p, past p 3 (omega arith))
 
--- src/lib.rt:26:1
 returns-5 : tie.Need-returns-5
 returns-5 c =
     let p = c .before .before .before .before .before .args .part .now in

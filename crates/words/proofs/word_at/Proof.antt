@@ -9,59 +9,46 @@ use Rattle.words.proofs.word_at.Reads as reads
 use Rattle.words.proofs.word_at.Lts as lts
 use Rattle.words.proofs.word.Reads as word-reads
 
--- src/lib.rt:41:9
 returns : tie.Need-returns
 returns c =
     let a = c .before .before .args in
     rw (number-past (a .s .now) (a .at) (a .width) (c .if1 .taken))
 
--- src/lib.rt:43:16
 sub-rest : tie.Need-sub-rest
 sub-rest c = search needs
 
--- src/lib.rt:45:21
 sub-word : tie.Need-sub-word
 sub-word c = search needs
 
--- src/lib.rt:45:21
 part-word-start : tie.Need-part-word-start
 part-word-start c = search needs
 
--- src/lib.rt:45:21
 part-word-end : tie.Need-part-word-end
 part-word-end c = search needs
 
--- src/lib.rt:45:9
 word-requires : tie.Need-word-requires
 word-requires c κs = search needs
 
--- src/lib.rt:45:9
 returns-2 : tie.Need-returns-2
 returns-2 c =
     let a = c .before .before .before .before .before .args in
     rw (c .word .ensures, number-rest (a .s .now) (a .at) (a .width) (omega arith))
 
--- src/lib.rt:47:16
 add-stop : tie.Need-add-stop
 add-stop c = search needs
 
--- src/lib.rt:48:10
 sub-word-2 : tie.Need-sub-word-2
 sub-word-2 c = search needs
 
--- src/lib.rt:48:10
 part-word-start-2 : tie.Need-part-word-start-2
 part-word-start-2 c = search needs
 
--- src/lib.rt:48:10
 part-word-end-2 : tie.Need-part-word-end-2
 part-word-end-2 c = search needs
 
--- src/lib.rt:48:5
 word-requires-2 : tie.Need-word-requires-2
 word-requires-2 c κs = search needs
 
--- src/lib.rt:37:1
 returns-3 : tie.Need-returns-3
 returns-3 c = rw (c .word2 .ensures, add-sub-cancel-left)
 

@@ -1,0 +1,24 @@
+-- `build_given::judge_allele` meets its contract.
+use mathlib.Core.Path.{_∙_}
+use Rattle.build_given.specs.Given.{alleleNumber}
+use borrow.Author.Needs.{needs}
+use Rattle.build_given.proofs.judge_allele.Statement.{statement}
+use Rattle.build_given.proofs.judge_allele.Tie as tie
+use Rattle.build_given.proofs.judge_allele.Reads as reads
+use Rattle.build_given.proofs.judge_allele.Lts as lts
+use Rattle.build_given.proofs.number_of.Reads as number-of-reads
+use Rattle.site.proofs.judge_allele.Reads as judge-allele-reads
+
+judge-allele-requires : tie.Need-judge-allele-requires
+judge-allele-requires c κs = search needs
+
+number-of-requires : tie.Need-number-of-requires
+number-of-requires c κs = search needs
+
+returns : tie.Need-returns
+unfolding alleleNumber
+returns c =
+    c .number-of .ensures ∙ rw (c .before .judge-allele .ensures .0)
+
+pub judge-allele-spec : {M : Type 1} → statement M
+judge-allele-spec = tie.close (tie.spec judge-allele-requires number-of-requires returns)
