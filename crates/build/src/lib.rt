@@ -386,7 +386,10 @@ pub fn format_integers(state: Builder, buf: &mut [u8], key: i32, len: u32, value
     let k = words::bits(key);
     let front = format_number(state, k, true, len, values.len());
     let most = most_for(state.facts.gt, k, state.alleles);
-    let rules = first_of(front, build_given::judge_integers(values, len as usize, most));
+    let rules = first_of(
+        front,
+        build_given::judge_integers(values, len as usize, most),
+    );
     let field = Field::Format(k, len);
     let done = build_append::append_integers(buf, state.at, rules, field, values);
     format_turn(state, done, k)

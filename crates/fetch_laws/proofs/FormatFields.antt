@@ -33,6 +33,7 @@ use Rattle.fetch.specs.declared.Found.the-variants.{Field}
 use Rattle.fetch.specs.declared.Kind.the-variants.{Format}
 use Rattle.fetch.proofs.Inside.{keyed-inside, drop-past}
 use Rattle.fetch_laws.specs.InTurn.{formatValue, format}
+use Rattle.fetch_laws.proofs.Rows.{implied, each}
 use Rattle.fetch_laws.proofs.Agree.{sound-there, sound-past, value-passed}
 use Rattle.fetch_laws.proofs.Present.{present-typed}
 
@@ -40,30 +41,9 @@ use Rattle.fetch_laws.proofs.Present.{present-typed}
 abbrev wider : Row → Bool
 wider r = pick (r .gt) (r .format) true
 
-abbrev every : List Row → Bool
-every [] = true
-every (r ∷ rs) = pick (wider r) (every rs) false
-
-head-of : (a b : Bool) → pick a b false ≡ true → a ≡ true
-head-of true b h = refl
-head-of false b h = h
-
-rest-of : (a b : Bool) → pick a b false ≡ true → b ≡ true
-rest-of true b h = h
-rest-of false b h = cc
-
-each-wider : (rs : List Row) (d : Row) (k : ℕ) → every rs ≡ true → wider d ≡ true → wider (getD rs k d) ≡ true
-each-wider [] d k h e = e
-each-wider (r ∷ rs) d zero h e = head-of (wider r) (every rs) h
-each-wider (r ∷ rs) d (suc k) h e = each-wider rs d k (rest-of (wider r) (every rs) h) e
-
-implied : (a b : Bool) → pick a b true ≡ true → a ≡ true → b ≡ true
-implied true b h e = h
-implied false b h e = cc
-
 gt-format : (t : ℕ) → rowOf t .gt ≡ true → rowOf t .format ≡ true
 unfolding rowOf
-gt-format t h = implied (getD rows t unused .gt) (getD rows t unused .format) (each-wider rows unused t refl refl) h
+gt-format t h = implied (getD rows t unused .gt) (getD rows t unused .format) (each wider rows unused t refl refl) h
 
 -- and so does a descriptor: type 0 has length 0 for both
 wider-test : (a b c : Bool) → (a ≡ true → b ≡ true) → pick a c false ≡ true → pick b c false ≡ true

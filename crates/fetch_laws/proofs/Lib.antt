@@ -6,5 +6,6 @@ pub mod Fronts
 pub mod InTurn
 pub mod Once
 pub mod Present
+pub mod Rows
 pub mod There
 pub mod Turns

@@ -26,7 +26,7 @@ use Rattle.contents.proofs.Blocks.{formatOf, itemsOf}
 use Rattle.build_laws.specs.Records.{joined, fieldBytes, KeepsField, KeepsFields}
 use Rattle.choose_laws.proofs.Stored.{Bytes-drop}
 use Rattle.keeps_laws.proofs.Descriptors.{key-keeps}
-use Rattle.keeps_laws.proofs.Values.{shownAt, value-keeps, gt-types}
+use Rattle.keeps_laws.proofs.Values.{elementsFrom, value-keeps, gt-types}
 
 -- GT is integers
 role-types : (people key gt at : ℕ) (l : List ℕ) (t n first stop : ℕ) → present people (roleOf key gt) at l ≡ Present t n first stop → Bytes l
@@ -37,7 +37,7 @@ role-types people key gt at l t n first stop h b e = rw (gt-types people at l t 
 -- the field that is shown
 abbrev formatAt : ℕ → List ℕ → ℕ → ℕ → ℕ → ℕ → ℕ → ℕ → Field
 formatAt at l key next t n first stop =
-    record { key = key; len = n; value = record { kind = kindOf t; elements = shownAt next (drop (next - at) l) t first stop } }
+    record { key = key; len = n; value = record { kind = kindOf t; elements = elementsFrom next (drop (next - at) l) t first stop } }
 
 record FieldKeeps (f : Facts) (alleles : ℕ) (earlier : List ℕ) (at : ℕ) (l : List ℕ) (x : Field) (stop : ℕ) : Type 0 where
   keeps : KeepsField f alleles earlier x
@@ -60,7 +60,7 @@ field-keeps f alleles n earlier known at l b j =
     let c = key-keeps (f .strings) at l key next (j .number) b in
     let k = value-keeps (f .people) alleles role next l1 t (j .len) first stop here b1
     (sound-judged (f .people) alleles role next l1 t (j .len) first stop (j .value)) in
-    let xs = shownAt next l1 t first stop in
+    let xs = elementsFrom next l1 t first stop in
     let behind = drop-past l at next stop (j .keyLater) (omega (arith, j .later, j .ends)) in
     let long : length (givenBytes (kindOf t) (j .len) xs) + length (drop (stop - at) l) ≤ length l1 = rw behind at (k .long) in
     record {

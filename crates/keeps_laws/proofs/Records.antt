@@ -39,7 +39,7 @@ use Rattle.build_laws.proofs.ReadBack.{reads}
 use Rattle.build_laws.proofs.Builds.{keeps-builds, keeps-tight, tight-reads, tight-record}
 use Rattle.choose_laws.proofs.Stored.{Bytes-drop, Bytes-take, field-bound}
 use Rattle.keeps_laws.specs.Tightened.{Tightened}
-use Rattle.keeps_laws.proofs.Values.{shownAt}
+use Rattle.keeps_laws.proofs.Values.{elementsFrom}
 use Rattle.keeps_laws.proofs.Steps.{id-keeps, allelesAt, alleles-keep, filter-keeps, pairsAt, pairs-keep}
 use Rattle.keeps_laws.proofs.Genotypes.{fieldsAt, Fields, fields-keep}
 
@@ -75,9 +75,9 @@ block f t l e h b =
     let y = alleles-keep (t .alleles) p l1 q (w .allelesJudged) (Bytes-drop (p - idAt) l b) in
     let z = filter-keeps (f .strings) q l2 r (w .filterJudged) (Bytes-drop (q - idAt) l b) in
     let u = pairs-keep (f .strings) (t .infos) r l3 (w .last) (w .infosJudged) (Bytes-drop (r - idAt) l b) in
-    let id = shownAt idAt l (x .code) (x .first) p in
+    let id = elementsFrom idAt l (x .code) (x .first) p in
     let alleles = allelesAt (t .alleles) p l1 in
-    let filters = shownAt q l2 (z .code) (z .first) r in
+    let filters = elementsFrom q l2 (z .code) (z .first) r in
     let infos = pairsAt (t .infos) r l3 in
     let a = textBytes id in
     let c = joined textBytes alleles in

@@ -44,7 +44,7 @@ use Rattle.build_laws.specs.Records.{joined, textBytes, infoBytes, All, Fit, Ke
 use Rattle.build_laws.proofs.Values.{number-filters}
 use Rattle.choose_laws.proofs.Stored.{Bytes-drop}
 use Rattle.keeps_laws.proofs.Descriptors.{key-keeps, not-outside}
-use Rattle.keeps_laws.proofs.Values.{shownAt, value-there, value-keeps, id-text, allele-text, filter-types, text-part, there-takes}
+use Rattle.keeps_laws.proofs.Values.{elementsFrom, value-there, value-keeps, id-text, allele-text, filter-types, text-part, there-takes}
 
 -- a value that a step went past
 record Past (v : Value) (q : ℕ) : Type 0 where
@@ -63,9 +63,9 @@ pub record IdKeeps (at : ℕ) (l : List ℕ) (q : ℕ) : Type 0 where
   pub len : ℕ
   pub first : ℕ
   pub there : present 1 Id at l ≡ Present code len first q
-  pub fit : Fit text (shownAt at l code first q)
-  pub rules : givenNumber any text (length (shownAt at l code first q)) (shownAt at l code first q) ≡ 0
-  pub long : length (textBytes (shownAt at l code first q)) + length (drop (q - at) l) ≤ length l
+  pub fit : Fit text (elementsFrom at l code first q)
+  pub rules : givenNumber any text (length (elementsFrom at l code first q)) (elementsFrom at l code first q) ≡ 0
+  pub long : length (textBytes (elementsFrom at l code first q)) + length (drop (q - at) l) ≤ length l
 
 pub id-keeps : (at : ℕ) (l : List ℕ) (q : ℕ) → valueStep (sound 1 0 Id at l) ≡ At q → Bytes l → IdKeeps at l q
 id-keeps at l q h b =
@@ -77,7 +77,7 @@ id-keeps at l q h b =
     let k = value-keeps 1 0 Id at l t n first q here b (sound-judged 1 0 Id at l t n first q (p .there)) in
     let seven = id-text 1 at l t n first q here b in
     let same : kindOf t ≡ text = rw seven in
-    let count : n ≡ length (shownAt at l t first q) = omega (arith, k .value .count) in
+    let count : n ≡ length (elementsFrom at l t first q) = omega (arith, k .value .count) in
     record {
       code = t;
       len = n;
@@ -115,8 +115,8 @@ alleled at l q h = by-value (present 1 Allele at l) refl h
         by-elements t n first stop (eqb n 0) (alleleBytes 0 (take (stop - first) (drop (first - at) l))) p refl refl e
 
 record AlleleKeeps (at : ℕ) (l : List ℕ) (q code first : ℕ) : Type 0 where
-  keeps : KeepsAllele (shownAt at l code first q)
-  long : length (textBytes (shownAt at l code first q)) + length (drop (q - at) l) ≤ length l
+  keeps : KeepsAllele (elementsFrom at l code first q)
+  long : length (textBytes (elementsFrom at l code first q)) + length (drop (q - at) l) ≤ length l
 
 allele-keeps : (at : ℕ) (l : List ℕ) (q : ℕ) → Bytes l → (a : Alleled at l q) → AlleleKeeps at l q (a .code) (a .first)
 unfolding alleleNumber
@@ -127,8 +127,8 @@ allele-keeps at l q b a = of (a .code) (a .len) (a .first) (allele-text 1 at l (
     of t n first seven here some sound =
         let v = value-there 1 Allele at l t n first q here b in
         let same : kindOf t ≡ text = rw seven in
-        let count : n ≡ length (shownAt at l t first q) = omega (arith, v .count) in
-        let part : shownAt at l t first q ≡ take (q - first) (drop (first - at) l) = rw seven (text-part 1 Allele at l n first q (rw seven at here) b) in
+        let count : n ≡ length (elementsFrom at l t first q) = omega (arith, v .count) in
+        let part : elementsFrom at l t first q ≡ take (q - first) (drop (first - at) l) = rw seven (text-part 1 Allele at l n first q (rw seven at here) b) in
         record {
           keeps = record { fit = rw same at (v .fit); some = rw count at some; rules = ap (λ xs. numberOf (alleleBytes 0 xs)) part ∙ ap numberOf sound };
           long = rw (same, count) at (v .long (λ e. absurd (of-text same e)));
@@ -162,7 +162,7 @@ alleles-keep (suc n) at l q h b =
     let on = alleles-keep n p l1 q (w .on) (Bytes-drop (p - at) l b) in
     let i = rw (a .there) at (present-inside 1 Allele at l) in
     let later : at ≤ p = omega (arith, i .0, i .1) in
-    let xs = shownAt at l (a .code) (a .first) p in
+    let xs = elementsFrom at l (a .code) (a .first) p in
     let behind = drop-past l at p q later (on .later) in
     let shows : allelesAt (suc n) at l ≡ xs ∷ allelesAt n p l1 = rw (a .there) in
     record {
@@ -212,7 +212,7 @@ filtered-there strings at l q h = by-value (present 1 Filter at l) refl h
 
 -- the elements that were judged are those that are shown
 filtered-shown : (strings at : ℕ) (l : List ℕ) (t n first stop : ℕ) → present 1 Filter at l ≡ Present t n first stop
-    → filtered strings t (take (stop - first) (drop (first - at) l)) ≡ filters strings (widthOf t) 0 [] (shownAt at l t first stop)
+    → filtered strings t (take (stop - first) (drop (first - at) l)) ≡ filters strings (widthOf t) 0 [] (elementsFrom at l t first stop)
 unfolding filtered elementsOf
 filtered-shown strings at l t n first stop h =
     let i = rw h at (present-inside 1 Filter at l) in
@@ -228,9 +228,9 @@ pub record FilterKeeps (strings at : ℕ) (l : List ℕ) (q : ℕ) : Type 0 wher
   pub len : ℕ
   pub first : ℕ
   pub there : present 1 Filter at l ≡ Present code len first q
-  pub fit : Fit integers (shownAt at l code first q)
-  pub rules : filtersNumber strings (shownAt at l code first q) ≡ 0
-  pub long : length (givenBytes integers (length (shownAt at l code first q)) (shownAt at l code first q)) + length (drop (q - at) l) ≤ length l
+  pub fit : Fit integers (elementsFrom at l code first q)
+  pub rules : filtersNumber strings (elementsFrom at l code first q) ≡ 0
+  pub long : length (givenBytes integers (length (elementsFrom at l code first q)) (elementsFrom at l code first q)) + length (drop (q - at) l) ≤ length l
   pub later : at ≤ q
 
 pub filter-keeps : (strings at : ℕ) (l : List ℕ) (q : ℕ) → filter strings at l ≡ At q → Bytes l → FilterKeeps strings at l q
@@ -244,7 +244,7 @@ filter-keeps strings at l q h b =
     let i = rw (f .there) at (present-inside 1 Filter at l) in
     let types = filter-types 1 at l t n first q (f .there) b in
     let same = types .1 in
-    let xs = shownAt at l t first q in
+    let xs = elementsFrom at l t first q in
     let count : n ≡ length xs = omega (arith, v .count) in
     let sound = sym (filtered-shown strings at l t n first q (f .there)) ∙ f .sound in
     let takes = there-takes 1 Filter at l t n first q (f .there) b (types .0) (filters-inside strings (widthOf t) 0 [] xs sound) in
@@ -282,7 +282,7 @@ pair-there strings at l q h = by-key (keyed strings at l) refl h
 -- the pair that is shown
 abbrev pairAt : ℕ → List ℕ → ℕ → ℕ → ℕ → ℕ → ℕ → Pair
 pairAt at l key next t first stop =
-    record { key = key; value = record { kind = kindOf t; elements = shownAt next (drop (next - at) l) t first stop } }
+    record { key = key; value = record { kind = kindOf t; elements = elementsFrom next (drop (next - at) l) t first stop } }
 
 record PairKeeps (strings at : ℕ) (l : List ℕ) (q key next t first : ℕ) : Type 0 where
   keeps : KeepsInfo strings (pairAt at l key next t first q)
@@ -304,7 +304,7 @@ pair-keeps strings at l q b p =
     let j = rw here at (present-inside 1 Info next l1) in
     let c = key-keeps strings at l key next (p .number) b in
     let k = value-keeps 1 0 Info next l1 t n first q here (Bytes-drop (next - at) l b) (sound-judged 1 0 Info next l1 t n first q (p .value)) in
-    let xs = shownAt next l1 t first q in
+    let xs = elementsFrom next l1 t first q in
     let count : n ≡ length xs = omega (arith, k .value .count) in
     let later : at ≤ next = omega (arith, i .0) in
     let behind = drop-past l at next q later (omega (arith, j .0, j .1)) in

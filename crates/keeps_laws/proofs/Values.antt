@@ -51,17 +51,17 @@ width-written t xs w f =
     under t h k g = width-under (widest xs) t (widest-types xs .0) (widest-under t xs h g) k
 
 -- the elements of a value that is there
-abbrev pub shownAt : ℕ → List ℕ → ℕ → ℕ → ℕ → List ℕ
-shownAt at l t first stop = elementsOf t (stop - first) (drop (first - at) l)
+abbrev pub elementsFrom : ℕ → List ℕ → ℕ → ℕ → ℕ → List ℕ
+elementsFrom at l t first stop = elementsOf t (stop - first) (drop (first - at) l)
 
-elements-none : (at : ℕ) (l : List ℕ) (t first : ℕ) → shownAt at l t first first ≡ []
+elements-none : (at : ℕ) (l : List ℕ) (t first : ℕ) → elementsFrom at l t first first ≡ []
 elements-none at l t first = let e : first - first ≡ 0 = omega arith in rw e (elementsOf-none t (drop (first - at) l))
 
 -- the bytes of its elements
 record Part (at : ℕ) (l : List ℕ) (t count first stop : ℕ) : Type 0 where
   bytes : Bytes (take (stop - first) (drop (first - at) l))
   size : length (take (stop - first) (drop (first - at) l)) ≡ count * widthOf t
-  same : shownAt at l t first stop ≡ map (shown t) (numbers (widthOf t) count (take (stop - first) (drop (first - at) l)))
+  same : elementsFrom at l t first stop ≡ map (shown t) (numbers (widthOf t) count (take (stop - first) (drop (first - at) l)))
 
 part-there : (at : ℕ) (l : List ℕ) (t count first stop : ℕ) → 0 < widthOf t → Bytes l → at ≤ first → stop ≡ first + count * widthOf t
     → stop ≤ at + length l → Part at l t count first stop
@@ -83,10 +83,10 @@ part-there at l t count first stop w b h e i =
 -- the law: a value that is there has as many elements as its vectors have, each of 32 bits or a byte of text; and where they take no wider type it is
 -- written in no more bytes than it stands in
 pub record ValueThere (vectors at : ℕ) (l : List ℕ) (t n first stop : ℕ) : Type 0 where
-  pub count : length (shownAt at l t first stop) ≡ vectors * n
-  pub fit : Fit (kindOf t) (shownAt at l t first stop)
-  pub long : (givenAs (kindOf t) ≡ 3 → All (λ x. typeFor (kind 3 x) x ≤ t) (shownAt at l t first stop))
-      → length (givenBytes (kindOf t) n (shownAt at l t first stop)) + length (drop (stop - at) l) ≤ length l
+  pub count : length (elementsFrom at l t first stop) ≡ vectors * n
+  pub fit : Fit (kindOf t) (elementsFrom at l t first stop)
+  pub long : (givenAs (kindOf t) ≡ 3 → All (λ x. typeFor (kind 3 x) x ≤ t) (elementsFrom at l t first stop))
+      → length (givenBytes (kindOf t) n (elementsFrom at l t first stop)) + length (drop (stop - at) l) ≤ length l
 
 pub value-there : (vectors : ℕ) (role : Use) (at : ℕ) (l : List ℕ) (t n first stop : ℕ) → present vectors role at l ≡ Present t n first stop → Bytes l
     → ValueThere vectors at l t n first stop
@@ -103,7 +103,7 @@ value-there vectors role at l t n first stop h b =
     by-type : Stands t n → ValueThere vectors at l t n first stop
     by-type (empty e z) =
         let p = present-zero vectors role at l n first stop (rw e at h) in
-        let none : shownAt at l t first stop ≡ [] = rw (p .1) (elements-none at l t first) in
+        let none : elementsFrom at l t first stop ≡ [] = rw (p .1) (elements-none at l t first) in
         let inside = i .inside in
         let same = p .1 in
         record {
@@ -121,8 +121,8 @@ value-there vectors role at l t n first stop h b =
         let part = take (stop - first) (drop (first - at) l) in
         let ys = numbers (widthOf t) (vectors * n) part in
         let size = p .size in
-        let count : length (shownAt at l t first stop) ≡ vectors * n = rw (p .same, length-map ys (shown t), length-numbers (widthOf t) (vectors * n) part) in
-        let xs = shownAt at l t first stop in
+        let count : length (elementsFrom at l t first stop) ≡ vectors * n = rw (p .same, length-map ys (shown t), length-numbers (widthOf t) (vectors * n) part) in
+        let xs = elementsFrom at l t first stop in
         record {
           count = count;
           fit = rw (p .same) (numbers-fit t (vectors * n) part w (p .bytes) (omega arith));
@@ -134,8 +134,8 @@ value-there vectors role at l t n first stop h b =
 -- and where its elements were judged sound, no rule is against them
 pub record ValueKeeps (vectors alleles : ℕ) (role : Use) (at : ℕ) (l : List ℕ) (t n first stop : ℕ) : Type 0 where
   pub value : ValueThere vectors at l t n first stop
-  pub rules : givenNumber (mostOf role alleles (givenAs (kindOf t))) (kindOf t) n (shownAt at l t first stop) ≡ 0
-  pub long : length (givenBytes (kindOf t) n (shownAt at l t first stop)) + length (drop (stop - at) l) ≤ length l
+  pub rules : givenNumber (mostOf role alleles (givenAs (kindOf t))) (kindOf t) n (elementsFrom at l t first stop) ≡ 0
+  pub long : length (givenBytes (kindOf t) n (elementsFrom at l t first stop)) + length (drop (stop - at) l) ≤ length l
 
 pub value-keeps : (vectors alleles : ℕ) (role : Use) (at : ℕ) (l : List ℕ) (t n first stop : ℕ) → present vectors role at l ≡ Present t n first stop → Bytes l
     → judged (mostOf role alleles t) t n (take (stop - first) (drop (first - at) l)) ≡ Sound → ValueKeeps vectors alleles role at l t n first stop
@@ -151,7 +151,7 @@ value-keeps vectors alleles role at l t n first stop h b j = by-type (described-
     by-type : Stands t n → ValueKeeps vectors alleles role at l t n first stop
     by-type (empty e z) =
         let p = present-zero vectors role at l n first stop (rw e at h) in
-        let none : shownAt at l t first stop ≡ [] = rw (p .1) (elements-none at l t first) in
+        let none : elementsFrom at l t first stop ≡ [] = rw (p .1) (elements-none at l t first) in
         record {
           value = v;
           rules = rw (none, zero-div n);
@@ -215,7 +215,7 @@ unfolding widthOf rowOf
 wide-text = omega arith
 
 pub text-part : (vectors : ℕ) (role : Use) (at : ℕ) (l : List ℕ) (n first stop : ℕ) → present vectors role at l ≡ Present 7 n first stop → Bytes l
-    → shownAt at l 7 first stop ≡ take (stop - first) (drop (first - at) l)
+    → elementsFrom at l 7 first stop ≡ take (stop - first) (drop (first - at) l)
 unfolding widthOf rowOf
 text-part vectors role at l n first stop h b =
     let i = present-typed vectors role at l 7 n first stop h in
@@ -234,13 +234,13 @@ positive-takes t a b (y ∷ ys) h k =
     (omega arith, positive-takes t a b ys (h .1) (k .1))
 
 pub there-takes : (vectors : ℕ) (role : Use) (at : ℕ) (l : List ℕ) (t n first stop : ℕ) → present vectors role at l ≡ Present t n first stop → Bytes l
-    → t ≤ 3 → All (λ x. x < 0x80000000) (shownAt at l t first stop) → All (λ x. typeFor (kind 3 x) x ≤ t) (shownAt at l t first stop)
+    → t ≤ 3 → All (λ x. x < 0x80000000) (elementsFrom at l t first stop) → All (λ x. typeFor (kind 3 x) x ≤ t) (elementsFrom at l t first stop)
 there-takes vectors role at l t n first stop h b k f = by-type (described-there vectors role at l t n first stop h b .there)
   where
-    by-type : Stands t n → All (λ x. typeFor (kind 3 x) x ≤ t) (shownAt at l t first stop)
+    by-type : Stands t n → All (λ x. typeFor (kind 3 x) x ≤ t) (elementsFrom at l t first stop)
     by-type (empty e z) =
         let p = present-zero vectors role at l n first stop (rw e at h) in
-        let none : shownAt at l t first stop ≡ [] = rw (p .1) (elements-none at l t first) in
+        let none : elementsFrom at l t first stop ≡ [] = rw (p .1) (elements-none at l t first) in
         rw none tt
     by-type (filled w) =
         let i = present-typed vectors role at l t n first stop h in
