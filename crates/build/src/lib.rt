@@ -55,7 +55,7 @@ pub struct Turned {
     pub answer: Answer,
 }
 
-// How far a build is.
+// How far a build is: 0 for a fresh one, 7 for an ended one.
 pub fn rank_of(stage: Stage) -> u8
     ensures { λ r. ⌜ r ≡ rank stage ⌝ }
 {
@@ -124,7 +124,8 @@ fn begun_state(facts: Facts) -> Builder
     }
 }
 
-// Begin: CHROM, POS and rlen as numbers, QUAL as float bits. Taken only in a fresh state.
+// Begin: CHROM, POS and rlen as numbers, QUAL as float bits. Writes the first 32 bytes, with lengths and counts 0; or 12, where the state is not
+// fresh, 5, 13.
 pub fn begin(
     state: Builder,
     buf: &mut [u8],
@@ -169,7 +170,7 @@ fn moved(state: Builder, stage: Stage, at: u32, border: u32, alleles: u16, infos
     }
 }
 
-// End: fills in both block lengths and both count fields. Nothing is taken after it.
+// End: fills in both block lengths and both count fields; or 12, 13. Nothing is taken after it.
 pub fn end(state: Builder, buf: &mut [u8]) -> Turned
     ensures told { λ r. ⌜ r ≡ built state (length (now (buf .entry))) ⌝ }
     ensures written { λ _. ⌜ now (buf .exit) ≡ afterEnd state (now (buf .entry)) ⌝ }
@@ -250,7 +251,7 @@ fn format_turn(state: Builder, done: Written, key: u32) -> Turned
     answered(state, number, state)
 }
 
-// ID: any text.
+// ID: any text, appended; or 12, 9, 2, 13.
 pub fn id(state: Builder, buf: &mut [u8], part: &[u8]) -> Turned
     ensures told { λ r. ⌜ r ≡ idGiven state (length (now (buf .entry))) (now (part .entry)) ⌝ }
     ensures written { λ _. ⌜ now (buf .exit) ≡ afterId state (now (buf .entry)) (now (part .entry)) ⌝ }
@@ -264,7 +265,7 @@ pub fn id(state: Builder, buf: &mut [u8], part: &[u8]) -> Turned
     site_turn(state, done, last, 0, 0)
 }
 
-// An allele: not empty, its bytes from 21 to 7E.
+// An allele, appended: not empty, its bytes from 21 to 7E; or 12, 5, 7, 9, 2, 13.
 pub fn allele(state: Builder, buf: &mut [u8], part: &[u8]) -> Turned
     ensures told { λ r. ⌜ r ≡ alleleGiven state (length (now (buf .entry))) (now (part .entry)) ⌝ }
     ensures written { λ _. ⌜ now (buf .exit) ≡ afterAllele state (now (buf .entry)) (now (part .entry)) ⌝ }
@@ -278,7 +279,7 @@ pub fn allele(state: Builder, buf: &mut [u8], part: &[u8]) -> Turned
     site_turn(state, done, last, 1, 0)
 }
 
-// FILTER: offsets in the dictionary, none twice.
+// FILTER, appended: offsets in the dictionary, none twice; or 12, by element 8 then 11, 2, 13.
 pub fn filter(state: Builder, buf: &mut [u8], values: &[i32]) -> Turned
     ensures told { λ r. ⌜ r ≡ filterGiven state (length (now (buf .entry))) (map (ofZ w32) (now (values .entry))) ⌝ }
     ensures written { λ _. ⌜ now (buf .exit) ≡ afterFilter state (now (buf .entry)) (map (ofZ w32) (now (values .entry))) ⌝ }
@@ -299,7 +300,7 @@ fn info_key(stage: Stage, infos: u16, strings: u32, key: u32) -> u32
     build_rules::info_number(rank_of(stage), infos, strings, key)
 }
 
-// INFO with integers.
+// INFO with integers: key and value appended; or 12, 5, 8, 9, 2, 13.
 pub fn info_integers(state: Builder, buf: &mut [u8], key: i32, values: &[i32]) -> Turned
     ensures told { λ r. ⌜ r ≡ infoGiven state (length (now (buf .entry))) (ofZ w32 key) integers (map (ofZ w32) (now (values .entry))) ⌝ }
     ensures written { λ _. ⌜ now (buf .exit) ≡ afterInfo state (now (buf .entry)) (ofZ w32 key) integers (map (ofZ w32) (now (values .entry))) ⌝ }
@@ -317,7 +318,7 @@ pub fn info_integers(state: Builder, buf: &mut [u8], key: i32, values: &[i32]) -
     site_turn(state, done, last, 0, 1)
 }
 
-// INFO with floats, given by their bits.
+// INFO with floats, given by their bits: key and value appended; or 12, 5, 8, 9, 2, 13.
 pub fn info_floats(state: Builder, buf: &mut [u8], key: i32, bits: &[u32]) -> Turned
     ensures told { λ r. ⌜ r ≡ infoGiven state (length (now (buf .entry))) (ofZ w32 key) floats (now (bits .entry)) ⌝ }
     ensures written { λ _. ⌜ now (buf .exit) ≡ afterInfo state (now (buf .entry)) (ofZ w32 key) floats (now (bits .entry)) ⌝ }
@@ -332,7 +333,7 @@ pub fn info_floats(state: Builder, buf: &mut [u8], key: i32, bits: &[u32]) -> Tu
     site_turn(state, done, last, 0, 1)
 }
 
-// INFO with text.
+// INFO with text: key and value appended; or 12, 5, 8, 9, 2, 13.
 pub fn info_text(state: Builder, buf: &mut [u8], key: i32, part: &[u8]) -> Turned
     ensures told { λ r. ⌜ r ≡ infoGiven state (length (now (buf .entry))) (ofZ w32 key) text (now (part .entry)) ⌝ }
     ensures written { λ _. ⌜ now (buf .exit) ≡ afterInfo state (now (buf .entry)) (ofZ w32 key) text (now (part .entry)) ⌝ }
@@ -378,7 +379,7 @@ fn most_for(gt: u32, key: u32, alleles: u16) -> u32
     0xFFFFFFFF
 }
 
-// FORMAT with integers, so many for each person.
+// FORMAT with integers, so many for each person: key and value appended; or 12, 5, 8, 11, 7, by element 9 and 10, 2, 13.
 pub fn format_integers(state: Builder, buf: &mut [u8], key: i32, len: u32, values: &[i32]) -> Turned
     ensures told { λ r. ⌜ r ≡ formatGiven state (length (now (buf .entry))) (ofZ w32 key) integers len (map (ofZ w32) (now (values .entry))) ⌝ }
     ensures written { λ _. ⌜ now (buf .exit) ≡ afterFormat state (now (buf .entry)) (ofZ w32 key) integers len (map (ofZ w32) (now (values .entry))) ⌝ }
@@ -395,7 +396,7 @@ pub fn format_integers(state: Builder, buf: &mut [u8], key: i32, len: u32, value
     format_turn(state, done, k)
 }
 
-// FORMAT with floats, given by their bits, so many for each person.
+// FORMAT with floats, given by their bits, so many for each person: key and value appended; or 12, 5, 8, 11, 6, 7, 9, 2, 13.
 pub fn format_floats(state: Builder, buf: &mut [u8], key: i32, len: u32, bits: &[u32]) -> Turned
     ensures told { λ r. ⌜ r ≡ formatGiven state (length (now (buf .entry))) (ofZ w32 key) floats len (now (bits .entry)) ⌝ }
     ensures written { λ _. ⌜ now (buf .exit) ≡ afterFormat state (now (buf .entry)) (ofZ w32 key) floats len (now (bits .entry)) ⌝ }
@@ -408,7 +409,7 @@ pub fn format_floats(state: Builder, buf: &mut [u8], key: i32, len: u32, bits: &
     format_turn(state, done, k)
 }
 
-// FORMAT with text, so many bytes for each person.
+// FORMAT with text, so many bytes for each person: key and value appended; or 12, 5, 8, 11, 6, 7, 9, 2, 13.
 pub fn format_text(state: Builder, buf: &mut [u8], key: i32, len: u32, part: &[u8]) -> Turned
     ensures told { λ r. ⌜ r ≡ formatGiven state (length (now (buf .entry))) (ofZ w32 key) text len (now (part .entry)) ⌝ }
     ensures written { λ _. ⌜ now (buf .exit) ≡ afterFormat state (now (buf .entry)) (ofZ w32 key) text len (now (part .entry)) ⌝ }

@@ -141,7 +141,8 @@ fn append_number(rules: u32, at: u32, size: usize, room: usize) -> u32
     first_of(rules, room_number(at, size, room))
 }
 
-// Appends text, unless the rules or the room are against it.
+// Appends text, unless the rules or the room are against it: the number, the rules' or else 2 or 13, and the size. With a number nothing is
+// written.
 pub fn append_text(buf: &mut [u8], at: u32, rules: u32, field: Field, part: &[u8]) -> Written
     ensures told { λ r. ⌜ r ≡ written at (length (now (buf .entry))) rules (fieldBytes field text (now (part .entry))) ⌝ }
     ensures written { λ _. ⌜ now (buf .exit) ≡ writtenTo (now (buf .entry)) at rules (fieldBytes field text (now (part .entry))) ⌝ }
@@ -158,7 +159,8 @@ pub fn append_text(buf: &mut [u8], at: u32, rules: u32, field: Field, part: &[u8
     Written { number, size }
 }
 
-// Appends floats, given by their bits, unless the rules or the room are against it.
+// Appends floats, given by their bits, unless the rules or the room are against it: the number, the rules' or else 2 or 13, and the size. With a
+// number nothing is written.
 pub fn append_floats(buf: &mut [u8], at: u32, rules: u32, field: Field, bits: &[u32]) -> Written
     ensures told { λ r. ⌜ r ≡ written at (length (now (buf .entry))) rules (fieldBytes field floats (now (bits .entry))) ⌝ }
     ensures written { λ _. ⌜ now (buf .exit) ≡ writtenTo (now (buf .entry)) at rules (fieldBytes field floats (now (bits .entry))) ⌝ }
@@ -175,7 +177,8 @@ pub fn append_floats(buf: &mut [u8], at: u32, rules: u32, field: Field, bits: &[
     Written { number, size }
 }
 
-// Appends integers in the narrowest type for all, unless the rules or the room are against it.
+// Appends integers in the narrowest type for all, unless the rules or the room are against it: the number, the rules' or else 2 or 13, and the
+// size. With a number nothing is written.
 pub fn append_integers(buf: &mut [u8], at: u32, rules: u32, field: Field, values: &[i32]) -> Written
     ensures told { λ r. ⌜ r ≡ written at (length (now (buf .entry))) rules (fieldBytes field integers (map (ofZ w32) (now (values .entry)))) ⌝ }
     ensures written { λ _. ⌜ now (buf .exit) ≡ writtenTo (now (buf .entry)) at rules (fieldBytes field integers (map (ofZ w32) (now (values .entry)))) ⌝ }

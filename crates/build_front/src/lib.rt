@@ -10,7 +10,7 @@ ghost use Rattle.fixed.specs.Layout.{filledTo};
 ghost use Rattle.build_front.specs.Front.{fieldsNumber, frontBytes, fieldsFilled};
 use fixed::Facts;
 
-// 5 for a fixed field that breaks its rule, or more people than a record can hold.
+// 5 for a fixed field that breaks its rule, or more people than a record can hold; else 0.
 pub fn fields_number(facts: Facts, chrom: u32, pos: u32, rlen: u32, qual: u32) -> u32
     ensures { λ r. ⌜ r ≡ fieldsNumber facts chrom pos rlen qual ⌝ }
 {
@@ -32,7 +32,7 @@ pub fn fields_number(facts: Facts, chrom: u32, pos: u32, rlen: u32, qual: u32) -
     0
 }
 
-// Stores the first bytes, with the block lengths and the counts 0, where they have room.
+// Stores the first 32 bytes, with the block lengths and the counts 0, where they have room; else nothing.
 pub fn put_front(buf: &mut [u8], chrom: u32, pos: u32, rlen: u32, qual: u32)
     ensures { λ _. ⌜ now (buf .exit) ≡ filled (now (buf .entry)) 0 (frontBytes chrom pos rlen qual) ⌝ }
 {
@@ -64,8 +64,8 @@ fn low(v: u64) -> u32
     (v % 4294967296) as u32
 }
 
-// Fills in both block lengths and both count fields, where the buffer reaches past them: of a record whose genotype block stands between
-// two places.
+// Fills in both block lengths and both count fields, where the buffer reaches past them, else nothing: of a record whose genotype block stands
+// between two places.
 pub fn fill_in(
     buf: &mut [u8],
     border: u32,

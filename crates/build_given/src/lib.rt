@@ -88,7 +88,8 @@ fn integers_in_turn(values: &[i32], len: usize, most: u32) -> u32
     0
 }
 
-// The number for integers that are vectors of `len` each; a plain one above `most` gives 10.
+// The number for integers that are vectors of `len` each: 9 or 10 for the first that reading would refuse, else 0. A plain one above `most` gives
+// 10.
 pub fn judge_integers(values: &[i32], len: usize, most: u32) -> u32
     ensures { λ r. ⌜ r ≡ elementsNumber most 3 len (map (ofZ w32) (now (values .entry))) ⌝ }
 {
@@ -146,7 +147,7 @@ fn floats_in_turn(bits: &[u32], len: usize) -> u32
     0
 }
 
-// The number for floats, given by their bits, that are vectors of `len` each.
+// The number for floats, given by their bits, that are vectors of `len` each: 9 where reading would refuse one, else 0.
 pub fn judge_floats(bits: &[u32], len: usize) -> u32
     ensures { λ r. ⌜ r ≡ elementsNumber 0xFFFFFFFF 5 len (now (bits .entry)) ⌝ }
 {
@@ -156,14 +157,15 @@ pub fn judge_floats(bits: &[u32], len: usize) -> u32
     floats_in_turn(bits, len)
 }
 
-// The number for text that is vectors of `len` bytes each.
+// The number for text that is vectors of `len` bytes each: 9 where reading would refuse a byte, else 0.
 pub fn judge_text(text: &[u8], len: usize) -> u32
     ensures { λ r. ⌜ r ≡ elementsNumber 0xFFFFFFFF 7 len (now (text .entry)) ⌝ }
 {
     number_of(vectors::judge(text, 7, len, 0xFFFFFFFF))
 }
 
-// The number for the elements of FILTER, under the dictionary's size: of those before the first that is no offset, none stands twice.
+// The number for the elements of FILTER, under the dictionary's size: by element 8 then 11, else 0. Of those before the first that is no offset,
+// none may stand twice.
 pub fn judge_filters(values: &[i32], strings: u32) -> u32
     ensures { λ r. ⌜ r ≡ filtersNumber strings (map (ofZ w32) (now (values .entry))) ⌝ }
 {
@@ -178,7 +180,7 @@ pub fn judge_filters(values: &[i32], strings: u32) -> u32
     0
 }
 
-// The number for an allele's bytes.
+// The number for an allele's bytes: 9 where one is not from 21 to 7E, else 0.
 pub fn judge_allele(text: &[u8]) -> u32
     ensures { λ r. ⌜ r ≡ alleleNumber (now (text .entry)) ⌝ }
 {

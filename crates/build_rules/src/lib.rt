@@ -107,7 +107,7 @@ fn list_number(people: u32, len: u32, count: usize) -> u32
     7
 }
 
-// What is wrong with begin.
+// What is wrong with begin: 12, 5, 13, else 0.
 pub fn begin_number(
     rank: u8,
     room: usize,
@@ -126,14 +126,14 @@ pub fn begin_number(
     )
 }
 
-// What is wrong with end.
+// What is wrong with end: 12, 13, else 0.
 pub fn end_number(rank: u8, room: usize) -> u32
     ensures { λ r. ⌜ r ≡ wrongEnd rank room ⌝ }
 {
     first_of(order_number(rank, 4, 6), reach_number(room, fixed::FILLED))
 }
 
-// What is wrong with an ID.
+// What is wrong with an ID: 12, 9, else 0.
 pub fn id_number(rank: u8, part: &[u8]) -> u32
     ensures { λ r. ⌜ r ≡ wrongId rank (now (part .entry)) ⌝ }
 {
@@ -143,7 +143,7 @@ pub fn id_number(rank: u8, part: &[u8]) -> u32
     )
 }
 
-// What is wrong with an allele.
+// What is wrong with an allele: 12, 5, 7, 9, else 0.
 pub fn allele_number(rank: u8, alleles: u16, part: &[u8]) -> u32
     ensures { λ r. ⌜ r ≡ wrongAllele rank alleles (now (part .entry)) ⌝ }
 {
@@ -152,7 +152,7 @@ pub fn allele_number(rank: u8, alleles: u16, part: &[u8]) -> u32
     first_of(order_number(rank, 2, 3), first_of(count, text))
 }
 
-// What is wrong with FILTER.
+// What is wrong with FILTER: 12, by element 8 then 11, else 0.
 pub fn filter_number(rank: u8, strings: u32, values: &[i32]) -> u32
     ensures { λ r. ⌜ r ≡ wrongFilter rank strings (map (ofZ w32) (now (values .entry))) ⌝ }
 {
@@ -162,7 +162,7 @@ pub fn filter_number(rank: u8, strings: u32, values: &[i32]) -> u32
     )
 }
 
-// What is wrong with an INFO turn before its value is looked at.
+// What is wrong with an INFO turn before its value is looked at: 12, 5, 8, else 0.
 pub fn info_number(rank: u8, infos: u16, strings: u32, key: u32) -> u32
     ensures { λ r. ⌜ r ≡ wrongInfo rank infos strings key ⌝ }
 {
@@ -198,8 +198,8 @@ fn format_shape(gt: u32, key: u32, whole: bool, people: u32, len: u32, count: us
     first_of(gt_number(gt, key, whole), list_number(people, len, count))
 }
 
-// What is wrong with a FORMAT turn before its elements are looked at: given by the keys before it, its key, whether it has integers, and its
-// lengths.
+// What is wrong with a FORMAT turn before its elements are looked at: 12, 5, 8, 11, 6, 7, else 0. It is given by the keys before it, its key,
+// whether it has integers, and its lengths.
 pub fn format_number(
     rank: u8,
     facts: Facts,

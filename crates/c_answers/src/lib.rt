@@ -28,7 +28,7 @@ pub fn answer_of(number: u32, low: usize) -> u64
     number as u64 * 4294967296 + low as u64 % 4294967296
 }
 
-// A refusal's answer.
+// A refusal's answer: its number and its place.
 pub fn refused_answer(r: Refusal) -> u64
     ensures { λ q. ⌜ q ≡ refusedAnswer r ⌝ }
 {
@@ -75,7 +75,8 @@ fn tell(out: &mut [u64], numbers: &[u64], low: usize) -> u64
     answer_of(0, low)
 }
 
-// Tells what reading answered: the length, the border, the fixed fields, the counts, and where GT stands.
+// Tells what reading answered: its refusal; else 13 for less than 13 numbers of room; else the record's length, and in `out` the length, the
+// border, the fixed fields, the counts, and where GT stands.
 pub fn tell_reading(r: Reading, out: &mut [u64]) -> u64
     ensures told { λ q. ⌜ q ≡ readingAnswer (length (now (out .entry))) r ⌝ }
     ensures written { λ _. ⌜ now (out .exit) ≡ readingNumbers (now (out .entry)) r ⌝ }
@@ -119,7 +120,7 @@ fn empty_site() -> Site
     }
 }
 
-// The site that numbers hold, as reading told them; too few hold one in which no field stands.
+// The site that 13 numbers hold, as reading told them, each as far as its field's type goes; fewer hold one in which no field stands.
 pub fn site_told(numbers: &[u64]) -> Site
     ensures { λ r. ⌜ r ≡ siteTold (now (numbers .entry)) ⌝ }
 {
@@ -155,7 +156,8 @@ fn tell_field(out: &mut [u64], key: u32, code: u8, len: u32, place: usize, stop:
     tell(out, &numbers, distance(place, stop))
 }
 
-// Tells what fetching answered.
+// Tells what fetching answered: its refusal; else 13 for less than 5 numbers of room; else how many bytes the field's part has, and in `out` key,
+// type, length, place and end.
 pub fn tell_found(f: Found, out: &mut [u64]) -> u64
     ensures told { λ q. ⌜ q ≡ foundAnswer (length (now (out .entry))) f ⌝ }
     ensures written { λ _. ⌜ now (out .exit) ≡ foundNumbers (now (out .entry)) f ⌝ }
@@ -172,7 +174,7 @@ pub fn tell_found(f: Found, out: &mut [u64]) -> u64
     }
 }
 
-// Tells a pair of the walker; 16 where there is none.
+// Tells a pair of the walker as a fetched field is told; 16 where there is none.
 pub fn tell_pair(p: Pair, out: &mut [u64]) -> u64
     ensures told { λ q. ⌜ q ≡ pairAnswer (length (now (out .entry))) p ⌝ }
     ensures written { λ _. ⌜ now (out .exit) ≡ pairNumbers (now (out .entry)) p ⌝ }
@@ -189,7 +191,7 @@ pub fn tell_pair(p: Pair, out: &mut [u64]) -> u64
     }
 }
 
-// Tells where the walk of the INFO pairs begins.
+// Tells where the walk of the INFO pairs begins, or the refusal.
 pub fn tell_opening(o: Opening) -> u64
     ensures { λ q. ⌜ q ≡ openingAnswer o ⌝ }
 {
@@ -224,7 +226,8 @@ fn tell_calls(site: Site, calls: Calls, out: &mut [u64]) -> u64
     answer_of(0, site.length)
 }
 
-// Tells what a tally answered.
+// Tells what a tally answered: its refusal; else 13 for less than 68 numbers of room; else the record's length, and in `out` alleles, people and
+// counters.
 pub fn tell_tally(t: Tallied, out: &mut [u64]) -> u64
     ensures told { λ q. ⌜ q ≡ talliedAnswer (length (now (out .entry))) t ⌝ }
     ensures written { λ _. ⌜ now (out .exit) ≡ talliedNumbers (now (out .entry)) t ⌝ }
@@ -236,7 +239,7 @@ pub fn tell_tally(t: Tallied, out: &mut [u64]) -> u64
     }
 }
 
-// Tells the chosen record's length.
+// Tells the chosen record's length, or the refusal.
 pub fn tell_choosing(c: Choosing) -> u64
     ensures { λ q. ⌜ q ≡ choosingAnswer c ⌝ }
 {

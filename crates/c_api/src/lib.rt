@@ -71,7 +71,7 @@ pub extern "C" fn sikalumdo_read(
     c_answers::tell_reading(record::read(s, facts), out)
 }
 
-// Fetches the field of a kind and a number: the length of its elements' bytes; `out` gets 5 numbers.
+// Fetches the field of a kind and a number: the length of its elements' bytes; `out` gets 5 numbers. A kind outside the five has no field.
 #[no_mangle]
 pub extern "C" fn sikalumdo_fetch(
     s: &[u8],
@@ -96,7 +96,7 @@ pub extern "C" fn sikalumdo_fetch(
     c_answers::tell_found(f, out)
 }
 
-// Fetches from a record that was read, by the numbers that reading told: the record is not read again.
+// Fetches from a record that was read, by the numbers that reading told: the record is not read again. A kind outside the five has no field.
 #[no_mangle]
 pub extern "C" fn sikalumdo_field_of(
     s: &[u8],
@@ -117,7 +117,7 @@ pub extern "C" fn sikalumdo_field_of(
     c_answers::tell_found(f, out)
 }
 
-// Shows an element of a fetched part by its 32 bits.
+// Shows an element of a fetched part by its 32 bits; 16 past the last one.
 #[no_mangle]
 pub extern "C" fn sikalumdo_shown(part: &[u8], code: u8, index: usize) -> u64
     ensures { λ r. ⌜ r ≡ shownAnswer (elementAt code index (now (part .entry))) ⌝ }
@@ -147,7 +147,7 @@ pub extern "C" fn sikalumdo_tally(
     c_answers::tell_tally(tally::tally(s, facts), out)
 }
 
-// Chooses people: the chosen record's length; `buf` gets its bytes.
+// Chooses people: the chosen record's length, or the refusal; `buf` gets its bytes.
 #[no_mangle]
 pub extern "C" fn sikalumdo_choose(
     s: &[u8],
@@ -170,7 +170,7 @@ pub extern "C" fn sikalumdo_choose(
     c_answers::tell_choosing(choose::choose(s, facts, choice, buf))
 }
 
-// Opens the walk of the INFO pairs: the place of the first one.
+// Opens the walk of the INFO pairs: the place of the first one, or reading's refusal.
 #[no_mangle]
 pub extern "C" fn sikalumdo_first_pair(
     s: &[u8],
@@ -190,7 +190,7 @@ pub extern "C" fn sikalumdo_first_pair(
     c_answers::tell_opening(walker::opening_of(s, facts))
 }
 
-// The INFO pair at a place: the length of its elements' bytes; `out` gets 5 numbers, the last of them the next pair's place.
+// The INFO pair at a place: the length of its elements' bytes; `out` gets 5 numbers, the last of them the next pair's place. 16 at the end.
 #[no_mangle]
 pub extern "C" fn sikalumdo_pair(s: &[u8], at: usize, out: &mut [u64]) -> u64
     ensures told { λ r. ⌜ r ≡ pairAnswer (length (now (out .entry))) (pairAt (now (s .entry)) at) ⌝ }
@@ -199,7 +199,7 @@ pub extern "C" fn sikalumdo_pair(s: &[u8], at: usize, out: &mut [u64]) -> u64
     c_answers::tell_pair(walker::pair_at(s, at), out)
 }
 
-// Makes a fresh state in 266 numbers.
+// Makes a fresh state in 266 numbers; 13 for fewer.
 #[no_mangle]
 pub extern "C" fn sikalumdo_fresh(state: &mut [u32]) -> u64
     ensures told { λ r. ⌜ r ≡ freshAnswer (length (now (state .entry))) ⌝ }
@@ -236,7 +236,7 @@ pub extern "C" fn sikalumdo_begin(
     c_state::keep(state, t)
 }
 
-// ID.
+// ID: any text.
 #[no_mangle]
 pub extern "C" fn sikalumdo_id(state: &mut [u32], buf: &mut [u8], text: &[u8]) -> u64
     ensures told { λ r. ⌜ r ≡ turnAnswer (idGiven (stateOf (now (state .entry))) (length (now (buf .entry))) (now (text .entry))) ⌝ }

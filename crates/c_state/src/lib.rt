@@ -73,7 +73,7 @@ fn no_state() -> Builder
     }
 }
 
-// The state that numbers hold; too few hold one that takes no turn.
+// The state that 266 numbers hold; fewer hold one that takes no turn.
 pub fn state_of(numbers: &[u32]) -> Builder
     ensures { λ r. ⌜ r ≡ stateOf (now (numbers .entry)) ⌝ }
 {
@@ -141,7 +141,8 @@ fn put_state(numbers: &mut [u32], state: Builder)
     put_numbers(numbers, 10, &keys);
 }
 
-// Tells what a turn answered, and stores the state after it; a refused one leaves the numbers as they are.
+// Tells what a turn answered, the bytes written so far or its refusal, and stores the state after it; a refused one leaves the numbers as they
+// are.
 pub fn keep(numbers: &mut [u32], t: Turned) -> u64
     ensures told { λ r. ⌜ r ≡ turnAnswer t ⌝ }
     ensures written { λ _. ⌜ now (numbers .exit) ≡ turnNumbers (now (numbers .entry)) t ⌝ }
@@ -154,7 +155,7 @@ pub fn keep(numbers: &mut [u32], t: Turned) -> u64
     c_answers::refused_answer(r)
 }
 
-// Stores a fresh state, or tells 13 where it has no room.
+// Stores a fresh state, or tells 13 where it has no room and stores nothing.
 pub fn put_fresh(numbers: &mut [u32]) -> u64
     ensures told { λ r. ⌜ r ≡ freshAnswer (length (now (numbers .entry))) ⌝ }
     ensures written { λ _. ⌜ now (numbers .exit) ≡ freshNumbers (now (numbers .entry)) ⌝ }

@@ -298,7 +298,8 @@ fn sum_pairs(pairs: &[u64; 130]) -> [u64; 65]
     counts
 }
 
-// The calls of a part that is vectors of type `code`, one of `len` elements for each person.
+// The calls of a part that is vectors of type `code`, one of `len` elements for each person: people without a slot, missing alleles, and the calls
+// of each of 64 alleles.
 pub fn count_calls(part: &[u8], code: u8, len: usize) -> Calls
     ensures { λ r. ⌜ r ≡ counted code len (now (part .entry)) ⌝ }
 {

@@ -17,7 +17,7 @@ fn capital_of(d: u8) -> u8
     0x37 + d
 }
 
-// Stores the text of bytes at a place, and says whether there was room; where there is none, nothing is stored.
+// Stores the hexadecimal capitals of bytes at a place, and says whether there was room; where there is none, nothing is stored.
 pub fn put_capitals(buf: &mut [u8], at: usize, part: &[u8]) -> bool
     ensures told { λ r. ⌜ r ≡ fits (length (now (buf .entry))) at (length (capitals (now (part .entry)))) ⌝ }
     ensures written { λ _. ⌜ now (buf .exit) ≡ filled (now (buf .entry)) at (capitals (now (part .entry))) ⌝ }
@@ -40,7 +40,7 @@ pub fn put_capitals(buf: &mut [u8], at: usize, part: &[u8]) -> bool
     true
 }
 
-// Stores the eight digits of a number at a place, and says whether there was room.
+// Stores the eight digits of a number at a place, and says whether there was room; where there is none, nothing is stored.
 pub fn put_eight(buf: &mut [u8], at: usize, n: u32) -> bool
     ensures told { λ r. ⌜ r ≡ fits (length (now (buf .entry))) at 8 ⌝ }
     ensures written { λ _. ⌜ now (buf .exit) ≡ filled (now (buf .entry)) at (eight n) ⌝ }

@@ -169,7 +169,8 @@ fn put_record(buf: &mut [u8], s: &[u8], site: Site, choice: &[u32], size: usize)
     );
 }
 
-// The record of the chosen people at the buffer's start, and its length; a refusal writes nothing.
+// The record of the chosen people at the buffer's start, and its length, with the buffer's other bytes as they were; or reading's refusal, 14, 13,
+// which write nothing.
 pub fn choose(s: &[u8], facts: Facts, choice: &[u32], buf: &mut [u8]) -> Choosing
     ensures told { λ r. ⌜ r ≡ choosing facts (now (choice .entry)) (length (now (buf .entry))) (now (s .entry)) ⌝ }
     ensures inside { λ r. ⌜ chosenInside (length (now (buf .entry))) r ⌝ }

@@ -84,8 +84,8 @@ fn is_roomy(frame: &[u8], chosen: &[u8], out: &[u8]) -> bool
     true
 }
 
-// The answer to a record's line, the whole text, at the start of `out`; the record's bytes go into `frame`, those of the record of the
-// chosen people into `chosen`.
+// The answer to a record's line, the whole text, at the start of `out`, and its length; the record's bytes go to the start of `frame`, those of
+// the record of the chosen people to the start of `chosen`. Or no room, and nothing said.
 pub fn cut_line(
     line: &[u8],
     facts: Facts,
@@ -111,7 +111,7 @@ pub fn cut_line(
     Answer::NoRoom
 }
 
-// The first line of the release, at the start of `out`: the header's facts with the people that were chosen.
+// The first line of the release, at the start of `out`: the header's facts with the people that were chosen; or no room, and nothing written.
 pub fn release_line(facts: Facts, people: u32, out: &mut [u8]) -> Answer
     ensures told { λ r. ⌜ r ≡ released (length (now (out .entry))) facts people ⌝ }
     ensures inside { λ r. ⌜ textInside (length (now (out .entry))) r ⌝ }

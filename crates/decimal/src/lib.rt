@@ -42,7 +42,7 @@ fn store(buf: &mut [u8], at: usize, count: usize, n: u64)
     buf[last] = b'0' + rest as u8;
 }
 
-// The text of a number, put at a place.
+// The text of a number, put at a place: the place after it, or no room and nothing written.
 pub fn put_decimal(buf: &mut [u8], at: usize, n: u64) -> Put
     ensures told { λ r. ⌜ r ≡ placed (length (now (buf .entry))) at (decimal n) ⌝ }
     ensures inside { λ r. ⌜ placeInside (length (now (buf .entry))) r ⌝ }
@@ -59,7 +59,7 @@ pub fn put_decimal(buf: &mut [u8], at: usize, n: u64) -> Put
     Put::At(at + count)
 }
 
-// One byte, put at a place.
+// One byte, put at a place: the place after it, or no room and nothing written.
 pub fn put_byte(buf: &mut [u8], at: usize, b: u8) -> Put
     ensures told { λ r. ⌜ r ≡ placed (length (now (buf .entry))) at (b ∷ []) ⌝ }
     ensures inside { λ r. ⌜ placeInside (length (now (buf .entry))) r ⌝ }

@@ -18,7 +18,7 @@ pub enum Call {
     Nothing,
 }
 
-// The element of a part at an index from 0, by the part's type.
+// The 32 bits by which the element of a part at an index from 0 is shown, by the part's type; nothing past the last one.
 pub fn element_at(part: &[u8], code: u8, index: usize) -> Shown
     ensures { λ r. ⌜ r ≡ elementAt code index (now (part .entry)) ⌝ }
 {
@@ -61,7 +61,7 @@ fn call_of(code: u8, raw: u32) -> Call
     }
 }
 
-// The element of GT's part at an index from 0.
+// The element of GT's part at an index from 0: an allele with its phase, a missing allele or an end of vector; nothing past the last one.
 pub fn call_at(part: &[u8], code: u8, index: usize) -> Call
     ensures { λ r. ⌜ r ≡ callAt code index (now (part .entry)) ⌝ }
 {

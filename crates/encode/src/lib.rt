@@ -129,7 +129,7 @@ pub fn descriptor_size(n: usize) -> usize
     1 + integer_size(n)
 }
 
-// Stores an integer with a descriptor of its own, in the narrowest type, and says whether there was room.
+// Stores an integer with a descriptor of its own, in the narrowest type, and says whether there was room; where there is none, nothing is stored.
 pub fn put_integer(buf: &mut [u8], at: usize, bits: u32) -> bool
     ensures told { λ r. ⌜ r ≡ fits (length (now (buf .entry))) at (length (integerBytes bits)) ⌝ }
     ensures written { λ _. ⌜ now (buf .exit) ≡ filled (now (buf .entry)) at (integerBytes bits) ⌝ }
@@ -143,7 +143,7 @@ pub fn put_integer(buf: &mut [u8], at: usize, bits: u32) -> bool
     stores::put_number(buf, at + 1, row.width, bits)
 }
 
-// Stores a descriptor of a type and a length, and says whether there was room.
+// Stores a descriptor of a type and a length, and says whether there was room; where there is none, nothing is stored.
 pub fn put_descriptor(buf: &mut [u8], at: usize, code: u8, n: u32) -> bool
     ensures told { λ r. ⌜ r ≡ fits (length (now (buf .entry))) at (length (descriptorBytes code n)) ⌝ }
     ensures written { λ _. ⌜ now (buf .exit) ≡ filled (now (buf .entry)) at (descriptorBytes code n) ⌝ }
@@ -265,7 +265,7 @@ fn put_others(buf: &mut [u8], at: usize, code: u8, w: u8, values: &[i32])
     }
 }
 
-// Stores integers in a type, one after the other, and says whether there was room.
+// Stores integers in a type, one after the other, and says whether there was room; where there is none, nothing is stored.
 pub fn put_integers(buf: &mut [u8], at: usize, code: u8, values: &[i32]) -> bool
     ensures told { λ r. ⌜ r ≡ fits (length (now (buf .entry))) at (length (elementsBytes code (map (ofZ w32) (now (values .entry))))) ⌝ }
     ensures written { λ _. ⌜ now (buf .exit) ≡ filled (now (buf .entry)) at (elementsBytes code (map (ofZ w32) (now (values .entry)))) ⌝ }
@@ -291,7 +291,7 @@ pub fn put_integers(buf: &mut [u8], at: usize, code: u8, values: &[i32]) -> bool
     true
 }
 
-// Stores floats, given by their 32 bits, one after the other, and says whether there was room.
+// Stores floats, given by their 32 bits, one after the other, and says whether there was room; where there is none, nothing is stored.
 pub fn put_floats(buf: &mut [u8], at: usize, bits: &[u32]) -> bool
     ensures told { λ r. ⌜ r ≡ fits (length (now (buf .entry))) at (length (elementsBytes 5 (now (bits .entry)))) ⌝ }
     ensures written { λ _. ⌜ now (buf .exit) ≡ filled (now (buf .entry)) at (elementsBytes 5 (now (bits .entry))) ⌝ }

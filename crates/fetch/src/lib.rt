@@ -123,7 +123,7 @@ fn key_and_value(block: &[u8], at: usize, role: Use, vectors: u32) -> Found
     value_field(bits, values::value_at(block, next, role, vectors))
 }
 
-// The field of a kind at a place of its block, passed by its descriptor.
+// The field of a kind at a place of its block, passed by its descriptor; or a refusal.
 pub fn field_at(block: &[u8], at: usize, kind: Kind, people: u32) -> Found
     ensures { λ r. ⌜ r ≡ fieldAt kind people at (drop at (now (block .entry))) ⌝ }
     ensures { λ r. ⌜ foundInside at (length (now (block .entry))) r ⌝ }
@@ -281,7 +281,8 @@ fn up_to(s: &[u8], end: usize) -> &[u8]
     &s[..end]
 }
 
-// The field of a kind and a number in a record that was read: its site is what reading told. With any other site the answer is still determined.
+// The field of a kind and a number in a record that was read, by the site that reading told: the record is not read again. With any other site it
+// is the field that stands whole where that site leads, or 16.
 pub fn field_of(s: &[u8], site: Site, kind: Kind, number: u32) -> Found
     ensures { λ r. ⌜ r ≡ fieldOf kind number site (now (s .entry)) ⌝ }
     ensures { λ r. ⌜ foundInside 0 (length (now (s .entry))) r ⌝ }
@@ -299,7 +300,8 @@ pub fn field_of(s: &[u8], site: Site, kind: Kind, number: u32) -> Found
     or_none(field_in(up_to(s, border), fixed::ID, kind, people, alleles, number))
 }
 
-// The field of a kind and a number in the record at the start of a slice.
+// The field of a kind and a number in the record at the start of a slice: its key, type, length, place and end; or reading's refusal, or 16 where
+// there is none.
 pub fn find(s: &[u8], facts: Facts, kind: Kind, number: u32) -> Found
     ensures { λ r. ⌜ r ≡ found facts kind number (now (s .entry)) ⌝ }
     ensures { λ r. ⌜ foundInside 0 (length (now (s .entry))) r ⌝ }
@@ -338,7 +340,8 @@ pub fn fetch(s: &[u8], facts: Facts, kind: Kind, number: u32) -> &[u8]
     part(s, find(s, facts, kind, number))
 }
 
-// The same of a record that was read: its site is what reading told.
+// The elements of the field of a kind and a number in a record that was read, by the site that reading told, as that very part of the slice; on a
+// refusal an empty part.
 pub fn part_of(s: &[u8], site: Site, kind: Kind, number: u32) -> &[u8]
     ensures { λ r. ⌜ now r ≡ partOf (now (s .entry)) (fieldOf kind number site (now (s .entry))) ⌝ }
     ensures { λ r. ⌜ r .ptr ≡ (s .entry .ptr .0, startOf (fieldOf kind number site (now (s .entry))) + s .entry .ptr .1) ⌝ }

@@ -77,7 +77,7 @@ fn field_at(s: &[u8], at: usize) -> u32
     words::word_at(s, at, 4)
 }
 
-// The blocks of the record at the start of a slice.
+// The blocks of the record at the start of a slice: where the genotype block begins and ends; or 1, 2, 1, 3 in this order.
 pub fn blocks_of(s: &[u8]) -> Blocks
     ensures { λ r. ⌜ r ≡ blocks (now (s .entry)) ⌝ }
     ensures { λ r. ⌜ blocksInside (length (now (s .entry))) r ⌝ }
@@ -206,7 +206,8 @@ fn site_at(s: &[u8], border: usize, length: usize) -> Site
     }
 }
 
-// The blocks and the fixed fields of the record at the start of a slice.
+// The site of the record at the start of a slice, by its blocks and fixed fields; or the blocks' refusal, or 5 at the first field that breaks its
+// rule.
 pub fn fixed_fields(s: &[u8], facts: Facts) -> Fixed
     ensures { λ r. ⌜ r ≡ fixed facts (now (s .entry)) ⌝ }
     ensures { λ r. ⌜ fixedInside (length (now (s .entry))) r ⌝ }

@@ -84,7 +84,7 @@ fn put_refusal(out: &mut [u8], r: Refusal) -> usize
     put_line(out, b'n', b'o', &numbers, &none[..0])
 }
 
-// Says `bad` at the buffer's start.
+// Says `bad` at the buffer's start: its length; or no room, and nothing said.
 pub fn say_bad(out: &mut [u8]) -> Answer
     ensures told { λ r. ⌜ r ≡ said (length (now (out .entry))) badLine ⌝ }
     ensures inside { λ r. ⌜ textInside (length (now (out .entry))) r ⌝ }
@@ -96,7 +96,7 @@ pub fn say_bad(out: &mut [u8]) -> Answer
     Answer::Text(put_bad(out))
 }
 
-// Says `no` with a refusal's number and place at the buffer's start.
+// Says `no` with a refusal's number and place at the buffer's start: its length; or no room, and nothing said.
 pub fn say_refusal(out: &mut [u8], r: Refusal) -> Answer
     ensures told { λ a. ⌜ a ≡ said (length (now (out .entry))) (noLine (r .number ∷ r .place ∷ [])) ⌝ }
     ensures inside { λ a. ⌜ textInside (length (now (out .entry))) a ⌝ }
@@ -158,7 +158,8 @@ fn put_record(out: &mut [u8], bytes: &[u8], facts: Facts) -> usize
     put_accepted(out, bytes, site, gt)
 }
 
-// The answer to a record's line, the whole text, at the start of `out`; the record's bytes go into `frame`.
+// The answer to a record's line, the whole text, at the start of `out`, and its length; the record's bytes go to the start of `frame`. Or no room,
+// and nothing said.
 pub fn answer_line(line: &[u8], facts: Facts, frame: &mut [u8], out: &mut [u8]) -> Answer
     ensures told { λ r. ⌜ r ≡ answer (length (now (frame .entry))) (length (now (out .entry))) facts (now (line .entry)) ⌝ }
     ensures inside { λ r. ⌜ textInside (length (now (out .entry))) r ⌝ }

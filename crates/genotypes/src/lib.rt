@@ -128,7 +128,7 @@ pub fn is_repeated(earlier: &[u32], key: u32) -> bool
     false
 }
 
-// So many FORMAT fields from a place on, to the end of the block.
+// So many FORMAT fields from a place on, to the end of the block: where GT stands; or the first refusal of a field, then 4.
 pub fn genotype_block(block: &[u8], from: usize, facts: Facts, alleles: u32, count: u8) -> Genotypes
     ensures { λ r. ⌜ r ≡ formats (facts .strings) (facts .people) (facts .gt) alleles count [] noGt from (drop from (now (block .entry))) ⌝ }
 {

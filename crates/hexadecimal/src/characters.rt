@@ -262,7 +262,7 @@ const DIGITS: [u8; 256] = [
     16,
 ];
 
-// The table: one look for a character, where tests would be six.
+// The value of each character as a digit, 16 where it is none: one look for a character, where tests would be six.
 pub fn table() -> [u8; 256]
     ensures { λ r. ⌜ r ≡ valuesFrom 0 256 ⌝ }
 {

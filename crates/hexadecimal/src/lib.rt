@@ -87,7 +87,7 @@ fn number_at(table: &[u8; 256], line: &[u8], at: usize) -> u32
     a * 16777216 + b * 65536 + c * 256 + d
 }
 
-// The facts that the first line gives.
+// The facts that the first line gives: its four numbers, or none where it is not 32 digits.
 pub fn facts_of(line: &[u8]) -> FactsLine
     ensures { λ r. ⌜ r ≡ factsOf (now (line .entry)) ⌝ }
 {

@@ -9,7 +9,7 @@ pub struct VcfPosition(pub i32);
 // A position as BCF stores it: the first base is 0.
 pub struct BcfPosition(pub i32);
 
-// The VCF position of a BCF position.
+// The VCF position of a BCF position: one more, in 32 bits.
 pub fn to_vcf(p: BcfPosition) -> VcfPosition
     ensures { λ r. ⌜ r .0 ≡ oneBased (p .0) ⌝ }
 {
@@ -17,7 +17,7 @@ pub fn to_vcf(p: BcfPosition) -> VcfPosition
     VcfPosition(words::signed(std::num::wrapping_add_u32(stored, 1)))
 }
 
-// The BCF position of a VCF position.
+// The BCF position of a VCF position: one less, in 32 bits.
 pub fn to_bcf(p: VcfPosition) -> BcfPosition
     ensures { λ r. ⌜ r .0 ≡ zeroBased (p .0) ⌝ }
 {

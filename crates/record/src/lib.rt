@@ -56,7 +56,8 @@ fn genotypes_refused(g: Genotypes) -> Refusal
     }
 }
 
-// The record at the start of a slice, under the header's facts. Bytes after it belong to the next one.
+// The record at the start of a slice, under the header's facts: its site and where GT stands, or 01's first refusal, number and place. Bytes after
+// it belong to the next one.
 pub fn read(s: &[u8], facts: Facts) -> Reading
     ensures { λ r. ⌜ r ≡ reading facts (now (s .entry)) ⌝ }
     ensures { λ r. ⌜ readingInside (length (now (s .entry))) r ⌝ }

@@ -61,7 +61,7 @@ fn bits_at(values: &[i32], i: usize) -> u32
     words::bits(values[i])
 }
 
-// The index of the first integer that is no offset below a size.
+// The index of the first integer that is no offset below a size; their count where each is one.
 pub fn first_integer_outside(values: &[i32], size: u32) -> usize
     ensures { λ r. ⌜ r ≡ firstOutside size (map (ofZ w32) (now (values .entry))) ⌝ }
     ensures { λ r. ⌜ r ≤ length (now (values .entry)) ⌝ }
@@ -148,8 +148,8 @@ fn integer_windows(values: &[i32], most: u32) -> usize
     bound
 }
 
-// The index of the first integer that stood earlier. The first 64 are looked at by a call of itself: so the compiler does not take the windows'
-// bits, half a megabyte, into this function's frame, which every short list would pay for.
+// The index of the first integer that stood earlier; their count where none did. The first 64 are looked at by a call of itself: so the compiler
+// does not take the windows' bits, half a megabyte, into this function's frame, which every short list would pay for.
 pub fn first_integer_repeat(values: &[i32]) -> usize
     ensures { λ r. ⌜ r ≡ firstRepeat (map (ofZ w32) (now (values .entry))) ⌝ }
 {
@@ -177,7 +177,7 @@ fn element_at(part: &[u8], code: u8, w: u8, i: usize) -> u32
     types::shown_bits(code, words::word(&part[at..stop]))
 }
 
-// The index of a part's first element that is no offset below a size.
+// The index of a part's first element that is no offset below a size; their count where each is one.
 pub fn first_outside(part: &[u8], code: u8, size: u32) -> usize
     ensures { λ r. ⌜ r ≡ firstOutside size (elementsOf code (now (part .entry))) ⌝ }
     ensures { λ r. ⌜ r ≤ length (now (part .entry)) / widthOf code ⌝ }
@@ -298,7 +298,8 @@ fn element_windows(part: &[u8], code: u8, w: u8, count: usize, most: u32) -> usi
     bound
 }
 
-// The index of a part's first element that stood earlier. As with integers, the first 64 are looked at by a call of itself.
+// The index of a part's first element that stood earlier; their count where none did. As with integers, the first 64 are looked at by a call of
+// itself.
 pub fn first_repeat(part: &[u8], code: u8) -> usize
     ensures { λ r. ⌜ r ≡ firstRepeat (elementsOf code (now (part .entry))) ⌝ }
 {

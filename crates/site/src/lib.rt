@@ -49,7 +49,7 @@ fn past_elements(j: Judged, first: usize, stop: usize) -> Step
     }
 }
 
-// An allele's bytes, each from 21 to 7E; places count from the part's start.
+// An allele's bytes, each from 21 to 7E: sound, or 9 at the first that is not; places count from the part's start.
 pub fn judge_allele(part: &[u8]) -> Judged
     ensures { λ r. ⌜ r ≡ alleleBytes 0 (now (part .entry)) ⌝ }
     ensures { λ r. ⌜ judgedInside (length (now (part .entry))) r ⌝ }
@@ -74,7 +74,7 @@ pub fn judge_allele(part: &[u8]) -> Judged
     Judged::Sound
 }
 
-// The allele at a place.
+// The allele at a place: the place after it, or its refusal.
 pub fn allele_at(block: &[u8], at: usize) -> Step
     ensures { λ r. ⌜ r ≡ allele at (drop at (now (block .entry))) ⌝ }
     ensures { λ r. ⌜ stepInside at (length (now (block .entry))) r ⌝ }
@@ -99,7 +99,7 @@ pub fn allele_at(block: &[u8], at: usize) -> Step
     past_elements(j, first, stop)
 }
 
-// So many alleles from a place on.
+// So many alleles from a place on: the place after them, or the first refusal.
 pub fn alleles_at(block: &[u8], from: usize, count: u32) -> Step
     ensures { λ r. ⌜ r ≡ times allele count from (drop from (now (block .entry))) ⌝ }
     ensures { λ r. ⌜ stepInside from (length (now (block .entry))) r ⌝ }
@@ -144,7 +144,7 @@ fn judge_filters(part: &[u8], code: u8, strings: u32) -> Judged
     Judged::Sound
 }
 
-// FILTER at a place.
+// FILTER at a place: the place after it, or its refusal; of its elements, one after the other, 8 then 11.
 pub fn filter_at(block: &[u8], at: usize, strings: u32) -> Step
     ensures { λ r. ⌜ r ≡ filter strings at (drop at (now (block .entry))) ⌝ }
     ensures { λ r. ⌜ stepInside at (length (now (block .entry))) r ⌝ }
@@ -173,7 +173,7 @@ fn past_key(k: Integer) -> Step
     }
 }
 
-// The INFO pair at a place.
+// The INFO pair at a place: the place after it, or its refusal.
 pub fn info_at(block: &[u8], at: usize, strings: u32) -> Step
     ensures { λ r. ⌜ r ≡ info strings at (drop at (now (block .entry))) ⌝ }
     ensures { λ r. ⌜ stepInside at (length (now (block .entry))) r ⌝ }
@@ -185,7 +185,7 @@ pub fn info_at(block: &[u8], at: usize, strings: u32) -> Step
     past_value(vectors::sound_value_at(block, next, Use::Info, 1, 0))
 }
 
-// So many INFO pairs from a place on.
+// So many INFO pairs from a place on: the place after them, or the first refusal.
 pub fn infos_at(block: &[u8], from: usize, strings: u32, count: u32) -> Step
     ensures { λ r. ⌜ r ≡ times (info strings) count from (drop from (now (block .entry))) ⌝ }
     ensures { λ r. ⌜ stepInside from (length (now (block .entry))) r ⌝ }
@@ -203,7 +203,7 @@ pub fn infos_at(block: &[u8], from: usize, strings: u32, count: u32) -> Step
     Step::At(at)
 }
 
-// The site block from ID on, to its last byte.
+// The site block from ID on, to its last byte: its end; or the first refusal of ID, the alleles, FILTER and the INFO pairs, then 4.
 pub fn site_block(block: &[u8], from: usize, strings: u32, alleles: u32, infos: u32) -> Step
     ensures { λ r. ⌜ r ≡ site strings alleles infos from (drop from (now (block .entry))) ⌝ }
 {

@@ -37,7 +37,7 @@ pub fn put(buf: &mut [u8], at: usize, part: &[u8]) -> bool
     true
 }
 
-// Stores the low bytes of a number, as many as its width, at a place, and says whether there was room.
+// Stores the low bytes of a number, as many as its width, at a place, and says whether there was room; where there is none, nothing is stored.
 pub fn put_number(buf: &mut [u8], at: usize, width: u8, v: u32) -> bool
     ensures told { λ r. ⌜ r ≡ fits (length (now (buf .entry))) at width ⌝ }
     ensures written { λ _. ⌜ now (buf .exit) ≡ filled (now (buf .entry)) at (bytes width v) ⌝ }

@@ -31,7 +31,8 @@ fn without_all(people: u64) -> Calls
     }
 }
 
-// The calls of so many people whose GT stands where it is said to, as far as the slice goes. A GT of no length calls nobody.
+// The calls of so many people whose GT stands where it is said to, as far as the slice goes. With a GT of no length everybody is without a
+// genotype.
 pub fn calls_of(s: &[u8], gt: Gt, people: u32) -> Calls
     ensures { λ r. ⌜ r ≡ callsOf gt people (now (s .entry)) ⌝ }
 {
@@ -64,7 +65,8 @@ fn refused_tally(r: Refusal) -> Tallied
     }
 }
 
-// The tally of the record at the start of a slice, of at most 64 alleles.
+// The tally of the record at the start of a slice: its site and the calls; or reading's refusal, or 15 for more than 64 alleles. On a refusal
+// every counter is 0.
 pub fn tally(s: &[u8], facts: Facts) -> Tallied
     ensures { λ r. ⌜ r ≡ tallied facts (now (s .entry)) ⌝ }
 {

@@ -189,7 +189,7 @@ fn among(missing: u32, last: u32, raw: u32) -> Element
     Element::Reserved
 }
 
-// What the element with these bytes is, by its type.
+// What the element with these bytes is, by its type: plain, missing, an end of vector or reserved.
 pub fn element_of(code: u8, raw: u32) -> Element
     ensures { λ r. ⌜ r ≡ kind code raw ⌝ }
 {
@@ -247,7 +247,7 @@ pub fn shown_bits(code: u8, raw: u32) -> u32
     raw
 }
 
-// The narrowest type that takes a plain integer, given by its 32 bits.
+// The narrowest type, 1, 2 or 3, that takes a plain integer, given by its 32 bits.
 pub fn narrowest_type(bits: u32) -> u8
     ensures { λ r. ⌜ r ≡ narrowest bits ⌝ }
 {

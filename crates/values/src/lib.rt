@@ -67,7 +67,8 @@ fn descriptor_refusal(d: Descriptor) -> Refusal
     }
 }
 
-// One integer at a place: the descriptor 11, 12 or 13, and its element. The place is a key's or a true length's.
+// One integer with a descriptor of its own, 11, 12 or 13, where a key or a true length stands: its bits and the place after it; or 3, 6, 3 in this
+// order.
 pub fn integer_at(block: &[u8], at: usize, role: Use) -> Integer
     ensures { λ r. ⌜ r ≡ integer role at (drop at (now (block .entry))) ⌝ }
     ensures { λ r. ⌜ integerInside at (length (now (block .entry))) r ⌝ }
@@ -131,7 +132,7 @@ fn true_length(block: &[u8], at: usize) -> Integer
     Integer::One { bits, next }
 }
 
-// The key at a place: one integer, an offset below the dictionary's size.
+// The key at a place: one integer, an offset below the dictionary's size; or the integer's refusals, or 8 at the element.
 pub fn key_at(block: &[u8], at: usize, strings: u32) -> Integer
     ensures { λ r. ⌜ r ≡ keyed strings at (drop at (now (block .entry))) ⌝ }
     ensures { λ r. ⌜ integerInside at (length (now (block .entry))) r ⌝ }
@@ -162,7 +163,8 @@ fn may_stand(role: Use, code: u8, n: u8) -> bool
     false
 }
 
-// The descriptor at a place, for a use.
+// The descriptor at a place, for a use: type, length and the place of the first element; or 3, 6, and of a true length 3, 6, 3, 7. A bare 00 is
+// type 0, length 0 and the place just after it.
 pub fn descriptor_at(block: &[u8], at: usize, role: Use) -> Descriptor
     ensures { λ r. ⌜ r ≡ described role at (drop at (now (block .entry))) ⌝ }
     ensures { λ r. ⌜ descriptorInside at (length (now (block .entry))) r ⌝ }
@@ -213,7 +215,8 @@ pub fn has_room(first: usize, count: usize, w: usize, end: usize) -> bool
     true
 }
 
-// The value at a place with its elements, as many for each of `vectors` people (1 where there are none).
+// The value at a place with its elements, as many for each of `vectors` people (1 where there are none): the descriptor's answer and the place
+// after the last element; or 3 at the block's end.
 pub fn value_at(block: &[u8], at: usize, role: Use, vectors: u32) -> Value
     ensures { λ r. ⌜ r ≡ present vectors role at (drop at (now (block .entry))) ⌝ }
     ensures { λ r. ⌜ valueInside at (length (now (block .entry))) r ⌝ }

@@ -29,7 +29,7 @@ pub enum Turn {
     On(bool),
 }
 
-// One element's turn, after an end of vector or not.
+// One element's turn, after an end of vector or not: refused with 9 or 10, or passed, with whether the vector has ended.
 pub fn judge_one(code: u8, most: u32, ended: bool, raw: u32) -> Turn
     ensures { λ r. ⌜ r ≡ turned most ended (kind code raw) raw ⌝ }
 {
@@ -342,7 +342,8 @@ fn stretch_of(len: usize) -> usize
     k
 }
 
-// The elements of a part that is vectors of `len` elements each; a plain one above `most` is refused with 10.
+// The elements of a part that is vectors of `len` elements each: sound, or 9 or 10 with the place, from the part's start, of the first bad one. A
+// plain one above `most` is 10.
 pub fn judge(part: &[u8], code: u8, len: usize, most: u32) -> Judged
     ensures { λ r. ⌜ r ≡ judged most code len (now (part .entry)) ⌝ }
     ensures { λ r. ⌜ judgedInside (length (now (part .entry))) r ⌝ }
@@ -404,7 +405,8 @@ fn most_of(role: Use, alleles: u32, code: u8) -> u32
     }
 }
 
-// The value at a place with all its elements, each sound: so many vectors of its length, under an allele count where it is GT.
+// The value at a place with all its elements, each sound: so many vectors of its length, under an allele count where it is GT. Or the value's
+// refusals, or 9 or 10 at the first bad element's place in the block.
 pub fn sound_value_at(block: &[u8], at: usize, role: Use, vectors: u32, alleles: u32) -> Value
     ensures { λ r. ⌜ r ≡ sound vectors alleles role at (drop at (now (block .entry))) ⌝ }
     ensures { λ r. ⌜ valueInside at (length (now (block .entry))) r ⌝ }

@@ -61,7 +61,7 @@ fn pair_in(block: &[u8], at: usize) -> Pair
     as_pair(fetch::field_at(block, at, Kind::Info, 1))
 }
 
-// The pair at a place of a record: the end where its site block is not all lent.
+// The whole INFO pair at a place of a record, before the end of its site block; else the end, and so where that block is not all lent.
 pub fn pair_at(s: &[u8], at: usize) -> Pair
     ensures { λ r. ⌜ r ≡ pairAt (now (s .entry)) at ⌝ }
 {
@@ -114,7 +114,7 @@ fn after_filter(border: usize, f: Found) -> Opening
     }
 }
 
-// The place where a walker over a record starts, or reading's refusal. `new` makes the walker of it.
+// The place of the first INFO pair, where a walker over a record starts, or reading's refusal. `new` makes the walker of it.
 pub fn opening_of(s: &[u8], facts: Facts) -> Opening
     ensures { λ r. ⌜ r ≡ opened facts (now (s .entry)) ⌝ }
 {
@@ -149,7 +149,7 @@ pub fn moved<'a>(w: Walker<'a>) -> Walker<'a>
     }
 }
 
-// The same where the pair is known: nothing is decoded again.
+// The walker past a pair that is known: nothing is decoded again.
 pub fn advance<'a>(w: Walker<'a>, p: Pair) -> Walker<'a>
     ensures { λ r. ⌜ r ≡ advanced (w .entry) p ⌝ }
 {

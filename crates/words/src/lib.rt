@@ -22,7 +22,7 @@ fn pair(part: &[u8], at: usize) -> u32
     wide(part[at]) + wide(part[at + 1]) * 256
 }
 
-// The number that a part's bytes are; of a longer part, its first four.
+// The little-endian number that a part's bytes are; of a longer part, that of its first four.
 pub fn word(part: &[u8]) -> u32
     ensures { λ r. ⌜ r ≡ number 4 (now (part .entry)) ⌝ }
 {
