@@ -27,7 +27,7 @@ use Rattle.record.specs.Reading.{reading}
 use Rattle.record.specs.Shown.{kindOf, elementsOf}
 use Rattle.record.specs.declared.Reading.the-variants.{Accepted}
 use Rattle.record.proofs.Accepted.{accepted-fits}
-use Rattle.fetch.specs.Fields.{valueField, afterKey, alone, paired, fieldAt}
+use Rattle.fetch.specs.Fields.{valueField, pairField, alone, paired, fieldAt}
 use Rattle.fetch.specs.Account.{Entry, entered, fieldsOf, siteKinds, siteFields, genotypeFields, account, isKind, ofKind, numbered}
 use Rattle.fetch.specs.Fetch.{fieldOf, found}
 use Rattle.fetch.specs.declared.Kind.{Kind}
@@ -39,7 +39,7 @@ use Rattle.fetch_laws.proofs.Fronts.{integer-front}
 use Rattle.fetch_laws.proofs.Present.{paired-keyed}
 use Rattle.contents.specs.Contents.{shownOf}
 use Rattle.contents.proofs.Blocks.{Item, itemThen, itemsOf, itemsShown, blocksItems, shown-items}
-use Rattle.bare_laws.specs.Ones.{Rest, pastValue, valueOne, pastKey, pairOne, oneOf, onesOf, withOnes}
+use Rattle.bare_laws.specs.Ones.{Onward, pastValue, valueOne, pastKey, pairOne, oneOf, onesOf, withOnes}
 use Rattle.bare_laws.proofs.Values.{codeFor, present-ones, elements-ones}
 use Rattle.bare_laws.proofs.Steps.{valueOne-there, drop-valueOne, pairOne-there}
 use Rattle.bare_laws.proofs.Records.{lies, reads-ones}
@@ -49,7 +49,7 @@ abbrev asOne : Found → Found
 asOne (Refused r) = Refused r
 asOne (Field key t n place stop) = Field key (codeFor t) n place stop
 
-value-one : (vectors : ℕ) (role : Use) (rest : Rest) (at : ℕ) (l : List ℕ) (key : ℕ)
+value-one : (vectors : ℕ) (role : Use) (rest : Onward) (at : ℕ) (l : List ℕ) (key : ℕ)
     → valueField key (present vectors role at (valueOne vectors role rest at l)) ≡ asOne (valueField key (present vectors role at l))
 unfolding valueOne
 value-one vectors role rest at l key = by-value (present vectors role at l) refl
@@ -60,21 +60,21 @@ value-one vectors role rest at l key = by-value (present vectors role at l) refl
     by-value (Present t n first stop) p = rw (present-ones vectors role at l (rest stop (drop (stop - at) l)) t n first stop p)
 
 -- behind a key stands what becomes of its value
-drop-pairOne : (vectors : ℕ) (role : Use) (rest : Rest) (at : ℕ) (l : List ℕ) (key next : ℕ) → integer Key at l ≡ One key next
+drop-pairOne : (vectors : ℕ) (role : Use) (rest : Onward) (at : ℕ) (l : List ℕ) (key next : ℕ) → integer Key at l ≡ One key next
     → at ≤ next → next ≤ at + length l
     → drop (next - at) (pairOne vectors role rest at l) ≡ valueOne vectors role rest next (drop (next - at) l)
 drop-pairOne vectors role rest at l key next h a b =
     ap (drop (next - at)) (pairOne-there vectors role rest at l key next h)
     ∙ drop-at (take (next - at) l) _ (next - at) (length-take-le (next - at) l (omega arith))
 
-pair-one : (vectors : ℕ) (role : Use) (rest : Rest) (at : ℕ) (l : List ℕ)
+pair-one : (vectors : ℕ) (role : Use) (rest : Onward) (at : ℕ) (l : List ℕ)
     → paired vectors role at (pairOne vectors role rest at l) ≡ asOne (paired vectors role at l)
 unfolding paired pairOne
 pair-one vectors role rest at l = by-key (integer Key at l) refl (integer-inside Key at l)
   where
     by-key : (i : Integer) → integer Key at l ≡ i → integerInside at (at + length l) i
-        → afterKey vectors role at (pastKey (valueOne vectors role rest) at l i) (integer Key at (pastKey (valueOne vectors role rest) at l i))
-        ≡ asOne (afterKey vectors role at l i)
+        → pairField vectors role at (pastKey (valueOne vectors role rest) at l i) (integer Key at (pastKey (valueOne vectors role rest) at l i))
+        ≡ asOne (pairField vectors role at l i)
     by-key (NoInteger r) p k = rw p
     by-key (One key next) p k =
         let m = valueOne vectors role rest next (drop (next - at) l) in
@@ -83,7 +83,7 @@ pair-one vectors role rest at l = by-key (integer Key at l) refl (integer-inside
         drop-at (take (next - at) l) m (next - at) (length-take-le (next - at) l (omega (arith, k .0, k .1))) in
         rw (integer-front Key at at l m key next p, here, value) (value-one vectors role rest next (drop (next - at) l) key)
 
-field-one : (kind : Kind) (people : ℕ) (rest : Rest) (at : ℕ) (l : List ℕ)
+field-one : (kind : Kind) (people : ℕ) (rest : Onward) (at : ℕ) (l : List ℕ)
     → fieldAt kind people at (oneOf kind people rest at l) ≡ asOne (fieldAt kind people at l)
 unfolding alone
 field-one Id people rest at l = value-one 1 IdUse rest at l 0
@@ -93,11 +93,11 @@ field-one Info people rest at l = pair-one 1 InfoUse rest at l
 field-one Format people rest at l = pair-one people FormatUse rest at l
 
 -- the bytes of a field that is there: its elements are shown as they were, and behind it stands what becomes of the rest
-record Becomes (new l : List ℕ) (rest : Rest) (at t place stop : ℕ) : Type 0 where
+record Becomes (new l : List ℕ) (rest : Onward) (at t place stop : ℕ) : Type 0 where
   elements : elementsOf (codeFor t) (stop - place) (drop (place - at) new) ≡ elementsOf t (stop - place) (drop (place - at) l)
   behind : drop (stop - at) new ≡ rest stop (drop (stop - at) l)
 
-value-becomes : (vectors : ℕ) (role : Use) (rest : Rest) (at : ℕ) (l : List ℕ) (t n first stop : ℕ)
+value-becomes : (vectors : ℕ) (role : Use) (rest : Onward) (at : ℕ) (l : List ℕ) (t n first stop : ℕ)
     → present vectors role at l ≡ Present t n first stop → Becomes (valueOne vectors role rest at l) l rest at t first stop
 value-becomes vectors role rest at l t n first stop h =
     record {
@@ -106,7 +106,7 @@ value-becomes vectors role rest at l t n first stop h =
       behind = drop-valueOne vectors role rest at l t n first stop h;
     }
 
-alone-becomes : (role : Use) (rest : Rest) (at : ℕ) (l : List ℕ) (key t n first stop : ℕ) → alone role at l ≡ Field key t n first stop
+alone-becomes : (role : Use) (rest : Onward) (at : ℕ) (l : List ℕ) (key t n first stop : ℕ) → alone role at l ≡ Field key t n first stop
     → Becomes (valueOne 1 role rest at l) l rest at t first stop
 unfolding alone
 alone-becomes role rest at l key t n first stop h = value-becomes 1 role rest at l t n first stop (by-value (present 1 role at l) h)
@@ -115,7 +115,7 @@ alone-becomes role rest at l key t n first stop h = value-becomes 1 role rest at
     by-value (NoValue r) e = cc
     by-value (Present t′ n′ first′ stop′) e = cc
 
-pair-becomes : (vectors : ℕ) (role : Use) (rest : Rest) (at : ℕ) (l : List ℕ) (key t n first stop : ℕ)
+pair-becomes : (vectors : ℕ) (role : Use) (rest : Onward) (at : ℕ) (l : List ℕ) (key t n first stop : ℕ)
     → paired vectors role at l ≡ Field key t n first stop → Becomes (pairOne vectors role rest at l) l rest at t first stop
 pair-becomes vectors role rest at l key t n first stop h =
     let k = paired-keyed vectors role at l key t n first stop h in
@@ -134,7 +134,7 @@ pair-becomes vectors role rest at l key t n first stop h =
       behind = to-stop ∙ b .behind ∙ ap (rest stop) (drop-past l at next stop a (omega (arith, i .0, i .1)));
     }
 
-field-becomes : (kind : Kind) (people : ℕ) (rest : Rest) (at : ℕ) (l : List ℕ) (key t n place stop : ℕ)
+field-becomes : (kind : Kind) (people : ℕ) (rest : Onward) (at : ℕ) (l : List ℕ) (key t n place stop : ℕ)
     → fieldAt kind people at l ≡ Field key t n place stop → Becomes (oneOf kind people rest at l) l rest at t place stop
 field-becomes Id people rest at l key t n place stop h = alone-becomes IdUse rest at l key t n place stop h
 field-becomes Allele people rest at l key t n place stop h = alone-becomes AlleleUse rest at l key t n place stop h
@@ -156,7 +156,7 @@ unfolding itemsOf onesOf
 items-ones people [] at l = refl
 items-ones people (kind ∷ kinds) at l = by-field (λ q m. items-ones people kinds q m) (fieldAt kind people at l) refl
   where
-    rest : Rest
+    rest : Onward
     rest = onesOf people kinds
 
     new : List ℕ
@@ -192,7 +192,7 @@ unfolding fieldsOf onesOf
 fields-ones people [] at l = refl
 fields-ones people (kind ∷ kinds) at l = by-field (λ q m. fields-ones people kinds q m) (fieldAt kind people at l) refl
   where
-    rest : Rest
+    rest : Onward
     rest = onesOf people kinds
 
     new : List ℕ

@@ -22,7 +22,7 @@ use Rattle.fixed.proofs.Fits.{Fits}
 use Rattle.fetch.specs.Account.{siteKinds}
 use Rattle.fetch.specs.declared.Kind.{Kind}
 use Rattle.fetch.specs.declared.Kind.the-variants.{Id as IdKind, Allele as AlleleKind, Filter as FilterKind, Info as InfoKind, Format as FormatKind}
-use Rattle.bare_laws.specs.Ones.{Rest, oneFor, sameOrOne, pastValue, valueOne, pastKey, pairOne, oneOf, onesOf, withOnes}
+use Rattle.bare_laws.specs.Ones.{Onward, oneFor, sameOrOne, pastValue, valueOne, pastKey, pairOne, oneOf, onesOf, withOnes}
 use Rattle.bare_laws.proofs.Records.{even-ones, part-rest}
 
 -- each byte of the second list is the first's, or 01 for 00
@@ -60,10 +60,10 @@ kept-one (suc k) (x ∷ l) m h zero = one-byte x
 kept-one (suc k) (x ∷ l) m h (suc i) = kept-front k l m h i
 
 -- what becomes of a block
-abbrev Keeps : Rest → Type 0
+abbrev Keeps : Onward → Type 0
 Keeps rest = (at : ℕ) (l : List ℕ) → Kept l (rest at l)
 
-keeps-value : (vectors : ℕ) (role : Use) (rest : Rest) → Keeps rest → Keeps (valueOne vectors role rest)
+keeps-value : (vectors : ℕ) (role : Use) (rest : Onward) → Keeps rest → Keeps (valueOne vectors role rest)
 unfolding valueOne
 keeps-value vectors role rest h at l = by-value (present vectors role at l)
   where
@@ -71,7 +71,7 @@ keeps-value vectors role rest h at l = by-value (present vectors role at l)
     by-value (NoValue r) = kept-same l
     by-value (Present t n first stop) = kept-one (stop - at) l _ (h stop (drop (stop - at) l))
 
-keeps-pair : (vectors : ℕ) (role : Use) (rest : Rest) → Keeps rest → Keeps (pairOne vectors role rest)
+keeps-pair : (vectors : ℕ) (role : Use) (rest : Onward) → Keeps rest → Keeps (pairOne vectors role rest)
 unfolding pairOne
 keeps-pair vectors role rest h at l = by-key (integer Key at l)
   where
@@ -79,7 +79,7 @@ keeps-pair vectors role rest h at l = by-key (integer Key at l)
     by-key (NoInteger r) = kept-same l
     by-key (One key next) = kept-front (next - at) l _ (keeps-value vectors role rest h next (drop (next - at) l))
 
-keeps-one : (kind : Kind) (people : ℕ) (rest : Rest) → Keeps rest → Keeps (oneOf kind people rest)
+keeps-one : (kind : Kind) (people : ℕ) (rest : Onward) → Keeps rest → Keeps (oneOf kind people rest)
 keeps-one IdKind people = keeps-value 1 Id
 keeps-one AlleleKind people = keeps-value 1 Allele
 keeps-one FilterKind people = keeps-value 1 Filter

@@ -31,19 +31,19 @@ use Rattle.fetch.specs.declared.Kind.{Kind}
 use Rattle.fetch.specs.declared.Kind.the-variants.{Id as IdKind, Allele as AlleleKind, Filter as FilterKind, Info as InfoKind, Format as FormatKind}
 use Rattle.fetch_laws.specs.InTurn.{Accepts}
 use Rattle.fetch_laws.proofs.Fronts.{field-take, field-append}
-use Rattle.bare_laws.specs.Ones.{Rest, pastValue, valueOne, pastKey, pairOne, oneOf, onesOf, withOnes}
+use Rattle.bare_laws.specs.Ones.{Onward, pastValue, valueOne, pastKey, pairOne, oneOf, onesOf, withOnes}
 use Rattle.bare_laws.proofs.Values.{length-oneFor}
 use Rattle.bare_laws.proofs.Steps.{site-ones}
 use Rattle.bare_laws.proofs.Genotypes.{Genotyped, genotypes-ones}
 
 -- what becomes of a block is as long as it was
-abbrev pub Even : Rest → Type 0
+abbrev pub Even : Onward → Type 0
 Even rest = (at : ℕ) (l : List ℕ) → length (rest at l) ≡ length l
 
 length-parts : (k : ℕ) (l : List ℕ) → length (take k l) + length (drop k l) ≡ length l
 length-parts k l = sym (length-append (take k l) (drop k l)) ∙ ap length (take-append-drop k l)
 
-even-value : (vectors : ℕ) (role : Use) (rest : Rest) → Even rest → Even (valueOne vectors role rest)
+even-value : (vectors : ℕ) (role : Use) (rest : Onward) → Even rest → Even (valueOne vectors role rest)
 unfolding valueOne
 even-value vectors role rest e at l = by-value (present vectors role at l)
   where
@@ -52,7 +52,7 @@ even-value vectors role rest e at l = by-value (present vectors role at l)
     by-value (Present t n first stop) =
         rw (length-append, length-oneFor (take (stop - at) l), e stop (drop (stop - at) l)) (length-parts (stop - at) l)
 
-even-pair : (vectors : ℕ) (role : Use) (rest : Rest) → Even rest → Even (pairOne vectors role rest)
+even-pair : (vectors : ℕ) (role : Use) (rest : Onward) → Even rest → Even (pairOne vectors role rest)
 unfolding pairOne
 even-pair vectors role rest e at l = by-key (integer Key at l)
   where
@@ -61,7 +61,7 @@ even-pair vectors role rest e at l = by-key (integer Key at l)
     by-key (One key next) =
         rw (length-append, even-value vectors role rest e next (drop (next - at) l)) (length-parts (next - at) l)
 
-even-one : (kind : Kind) (people : ℕ) (rest : Rest) → Even rest → Even (oneOf kind people rest)
+even-one : (kind : Kind) (people : ℕ) (rest : Onward) → Even rest → Even (oneOf kind people rest)
 even-one IdKind people = even-value 1 Id
 even-one AlleleKind people = even-value 1 Allele
 even-one FilterKind people = even-value 1 Filter

@@ -36,12 +36,12 @@ use Rattle.fetch_laws.proofs.Agree.{allele-value, filter-value, went}
 use Rattle.fetch_laws.proofs.FormatFields.{keyed-integer}
 use Rattle.fetch_laws.proofs.Fronts.{integer-front, keyed-front}
 use Rattle.fetch.proofs.Inside.{integer-inside, present-inside, drop-past}
-use Rattle.bare_laws.specs.Ones.{Rest, asItIs, oneFor, valueOne, pairOne, oneOf, onesOf}
+use Rattle.bare_laws.specs.Ones.{Onward, asItIs, oneFor, valueOne, pairOne, oneOf, onesOf}
 use Rattle.contents.proofs.Bare.{present-zero}
 use Rattle.bare_laws.proofs.Values.{codeFor, present-ones, soundly-ones, part-ones, drop-ones}
 
 -- so many fields of a kind, one after the other
-unfoldable pub repeated : (Rest → Rest) → ℕ → Rest → Rest
+unfoldable pub repeated : (Onward → Onward) → ℕ → Onward → Onward
 repeated step zero rest = rest
 repeated step (suc n) rest = step (repeated step n rest)
 
@@ -66,22 +66,22 @@ pub site-form : (people alleles infos : ℕ)
 unfolding siteKinds onesOf
 site-form people alleles infos =
     ap (valueOne 1 Id) (ones-repeated people AlleleKind alleles (FilterKind ∷ replicate infos InfoKind)
-    ∙ ap (λ (rest : Rest). repeated (valueOne 1 Allele) alleles (valueOne 1 Filter rest)) (infos-form people infos))
+    ∙ ap (λ (rest : Onward). repeated (valueOne 1 Allele) alleles (valueOne 1 Filter rest)) (infos-form people infos))
 
 -- a step that comes to the same place in what becomes of the block, and behind it stands what becomes of the rest
-abbrev pub Passes : (ℕ → List ℕ → Step) → (Rest → Rest) → Type 0
+abbrev pub Passes : (ℕ → List ℕ → Step) → (Onward → Onward) → Type 0
 Passes step one =
-    (rest : Rest) (at : ℕ) (l : List ℕ) (q : ℕ) → step at l ≡ At q
+    (rest : Onward) (at : ℕ) (l : List ℕ) (q : ℕ) → step at l ≡ At q
     → (step at (one rest at l) ≡ At q) × (drop (q - at) (one rest at l) ≡ rest q (drop (q - at) l)) × (at ≤ q)
 
 -- what becomes of a value that is there, and what stands behind it
-pub valueOne-there : (vectors : ℕ) (role : Use) (rest : Rest) (at : ℕ) (l : List ℕ) (t n first stop : ℕ)
+pub valueOne-there : (vectors : ℕ) (role : Use) (rest : Onward) (at : ℕ) (l : List ℕ) (t n first stop : ℕ)
     → present vectors role at l ≡ Present t n first stop
     → valueOne vectors role rest at l ≡ oneFor (take (stop - at) l) ++ rest stop (drop (stop - at) l)
 unfolding valueOne
 valueOne-there vectors role rest at l t n first stop h = rw h
 
-pub drop-valueOne : (vectors : ℕ) (role : Use) (rest : Rest) (at : ℕ) (l : List ℕ) (t n first stop : ℕ)
+pub drop-valueOne : (vectors : ℕ) (role : Use) (rest : Onward) (at : ℕ) (l : List ℕ) (t n first stop : ℕ)
     → present vectors role at l ≡ Present t n first stop → drop (stop - at) (valueOne vectors role rest at l) ≡ rest stop (drop (stop - at) l)
 drop-valueOne vectors role rest at l t n first stop h =
     let i = rw h at (present-inside vectors role at l) in
@@ -94,7 +94,7 @@ none-passes rest at l q h =
     let e : at ≡ q = cc in
     (h, rw (← e, sub-self at), omega arith)
 
-pub both-passes : (first second : ℕ → List ℕ → Step) (one two : Rest → Rest) → Passes first one → Passes second two
+pub both-passes : (first second : ℕ → List ℕ → Step) (one two : Onward → Onward) → Passes first one → Passes second two
     → Passes (λ at l. then at l (first at l) second) (λ rest. one (two rest))
 both-passes first second one two f g rest at l q h =
     let w = went at l (first at l) second h in
@@ -105,13 +105,13 @@ both-passes first second one two f g rest at l q h =
     let behind = sym (drop-past new at p q (a .2) (b .2)) ∙ ap (drop (q - p)) (a .1) ∙ b .1 ∙ ap (rest q) (drop-past l at p q (a .2) (b .2)) in
     (rw (a .0, a .1) (b .0), behind, omega (arith, a .2, b .2))
 
-pub times-passes : (step : ℕ → List ℕ → Step) (one : Rest → Rest) → Passes step one → (n : ℕ) → Passes (times step n) (repeated one n)
+pub times-passes : (step : ℕ → List ℕ → Step) (one : Onward → Onward) → Passes step one → (n : ℕ) → Passes (times step n) (repeated one n)
 unfolding times repeated
 times-passes step one f zero = none-passes
 times-passes step one f (suc n) = both-passes step (times step n) one (repeated one n) f (times-passes step one f n)
 
 -- a step, and then what goes on from where it came to
-then-passes : (step : ℕ → List ℕ → Step) (one : Rest → Rest) (next : ℕ → List ℕ → Step) (rest : Rest) → Passes step one
+then-passes : (step : ℕ → List ℕ → Step) (one : Onward → Onward) (next : ℕ → List ℕ → Step) (rest : Onward) → Passes step one
     → ((q : ℕ) (m : List ℕ) (e : ℕ) → next q m ≡ At e → next q (rest q m) ≡ At e) → (at : ℕ) (l : List ℕ) (e : ℕ)
     → then at l (step at l) next ≡ At e → then at (one rest at l) (step at (one rest at l)) next ≡ At e
 then-passes step one next rest f on at l e h =
@@ -205,7 +205,7 @@ unfolding filter
 filter-passes strings = value-passes 1 Filter (filterValue strings) (λ at l v q. filter-value strings at l v {q = q}) (filter-ones strings)
 
 -- a key that is there, as it is, before what becomes of its value
-pub pairOne-there : (vectors : ℕ) (role : Use) (rest : Rest) (at : ℕ) (l : List ℕ) (key next : ℕ) → integer Key at l ≡ One key next
+pub pairOne-there : (vectors : ℕ) (role : Use) (rest : Onward) (at : ℕ) (l : List ℕ) (key next : ℕ) → integer Key at l ≡ One key next
     → pairOne vectors role rest at l ≡ take (next - at) l ++ valueOne vectors role rest next (drop (next - at) l)
 unfolding pairOne
 pairOne-there vectors role rest at l key next h = rw h
@@ -270,7 +270,7 @@ pub site-ones : (strings people alleles infos at : ℕ) (l : List ℕ) (e : ℕ)
     → site strings alleles infos at (onesOf people (siteKinds alleles infos) at l) ≡ At e
 unfolding site
 site-ones strings people alleles infos at l e h =
-    ap (λ (w : Rest). site strings alleles infos at (w at l)) (site-form people alleles infos)
+    ap (λ (w : Onward). site strings alleles infos at (w at l)) (site-form people alleles infos)
     ∙ then-passes (λ at l. valueStep (sound 1 0 Id at l)) (valueOne 1 Id) _ _ (sound-passes Id)
     (λ p fromAlleles. then-passes (times allele alleles) (repeated (valueOne 1 Allele) alleles) _ _ (times-passes allele (valueOne 1 Allele) allele-passes alleles)
     (λ q fromFilter. then-passes (filter strings) (valueOne 1 Filter) _ _ (filter-passes strings)

@@ -25,7 +25,7 @@ use Rattle.record.proofs.Accepted.{accepted}
 use Rattle.encode.specs.Encode.{integerBytes, descriptorBytes, valueBytes, elementsBytes}
 use Rattle.build_append.specs.Values.{writtenAs, givenBytes, pairBytes}
 use Rattle.build_rules.specs.Values.{givenAs}
-use Rattle.build_laws.specs.Records.{joined, textBytes, infoBytes, fieldBytes, siteBytes, genotypeBytes, recordBytes, All, KeepsAllele, KeepsInfo, KeepsFields, Keeps}
+use Rattle.build_laws.specs.Records.{joined, textBytes, infoBytes, formatBytes, siteBytes, genotypeBytes, recordBytes, All, KeepsAllele, KeepsInfo, KeepsFields, Keeps}
 use Rattle.build_laws.specs.Runs.{gives}
 use Rattle.build_laws.specs.Builds.{Tight}
 use Rattle.build_laws.proofs.Values.{written-type, one-vector, present-given, drop-front, integer-bytes, allowed-info}
@@ -36,7 +36,7 @@ use Rattle.build_laws.proofs.Kept.{turns-keep}
 use Rattle.fetch.specs.Account.{siteKinds}
 use Rattle.fetch.specs.declared.Kind.the-variants.{Format as FormatKind}
 use Rattle.contents.proofs.Bare.{wide-type}
-use Rattle.bare_laws.specs.Ones.{Rest, asItIs, oneFor, valueOne, pairOne, onesOf, withOnes}
+use Rattle.bare_laws.specs.Ones.{Onward, asItIs, oneFor, valueOne, pairOne, onesOf, withOnes}
 use Rattle.bare_laws.proofs.Values.{oneFor-same}
 use Rattle.bare_laws.proofs.Steps.{repeated, site-form, formats-form}
 use Rattle.bare_laws.proofs.Records.{part-rest}
@@ -58,7 +58,7 @@ oneFor-given k n xs = by-test (ltb n 15)
     by-test false = oneFor-same (0xF0 + t % 16) (integerBytes n ++ elementsBytes t xs) (λ e. omega arith)
 
 -- so a value that was given stays, and what follows it becomes what it becomes
-value-given : (vectors : ℕ) (role : Use) (rest : Rest) (at : ℕ) (k : Kind) (n : ℕ) (xs m : List ℕ) → allowed (rowOf (givenAs k)) role ≡ true
+value-given : (vectors : ℕ) (role : Use) (rest : Onward) (at : ℕ) (k : Kind) (n : ℕ) (xs m : List ℕ) → allowed (rowOf (givenAs k)) role ≡ true
     → n < 2147483648 → length xs ≡ vectors * n
     → valueOne vectors role rest at (givenBytes k n xs ++ m) ≡ givenBytes k n xs ++ rest (at + length (givenBytes k n xs)) m
 unfolding valueOne
@@ -72,7 +72,7 @@ value-given vectors role rest at k n xs m a h c =
     )
 
 -- a key and its value
-pair-given : (vectors : ℕ) (role : Use) (rest : Rest) (at key : ℕ) (k : Kind) (n : ℕ) (xs m : List ℕ) → allowed (rowOf (givenAs k)) role ≡ true
+pair-given : (vectors : ℕ) (role : Use) (rest : Onward) (at key : ℕ) (k : Kind) (n : ℕ) (xs m : List ℕ) → allowed (rowOf (givenAs k)) role ≡ true
     → key < 4294967296 → n < 2147483648 → length xs ≡ vectors * n
     → pairOne vectors role rest at (pairBytes key k n xs ++ m) ≡ pairBytes key k n xs ++ rest (at + length (pairBytes key k n xs)) m
 unfolding pairOne pairBytes rowOf
@@ -91,9 +91,9 @@ pair-given vectors role rest at key k n xs m a i h c =
     )
 
 -- so many of them
-repeated-joined : {A : Type 0} (step : Rest → Rest) (f : A → List ℕ) (P : A → Type 0)
-    → ((rest : Rest) (at : ℕ) (x : A) (m : List ℕ) → P x → length (f x) ≤ mostBytes → step rest at (f x ++ m) ≡ f x ++ rest (at + length (f x)) m)
-    → (rest : Rest) (at : ℕ) (xs : List A) (m : List ℕ) → All P xs → length (joined f xs) ≤ mostBytes
+repeated-joined : {A : Type 0} (step : Onward → Onward) (f : A → List ℕ) (P : A → Type 0)
+    → ((rest : Onward) (at : ℕ) (x : A) (m : List ℕ) → P x → length (f x) ≤ mostBytes → step rest at (f x ++ m) ≡ f x ++ rest (at + length (f x)) m)
+    → (rest : Onward) (at : ℕ) (xs : List A) (m : List ℕ) → All P xs → length (joined f xs) ≤ mostBytes
     → repeated step (length xs) rest at (joined f xs ++ m) ≡ joined f xs ++ rest (at + length (joined f xs)) m
 unfolding repeated joined
 repeated-joined step f P on rest at [] m h k = ap (λ (q : ℕ). rest q m) (omega arith)
@@ -111,16 +111,16 @@ repeated-joined step f P on rest at (x ∷ xs) m h k =
     )
 
 -- an allele, an INFO pair, a FORMAT field
-text-given : (role : Use) (rest : Rest) (at : ℕ) (xs m : List ℕ) → allowed (rowOf 7) role ≡ true → length (textBytes xs) ≤ mostBytes
+text-given : (role : Use) (rest : Onward) (at : ℕ) (xs m : List ℕ) → allowed (rowOf 7) role ≡ true → length (textBytes xs) ≤ mostBytes
     → valueOne 1 role rest at (textBytes xs ++ m) ≡ textBytes xs ++ rest (at + length (textBytes xs)) m
 text-given role rest at xs m a h = value-given 1 role rest at text (length xs) xs m a (one-vector text xs h) (omega arith)
 
-allele-given : (rest : Rest) (at : ℕ) (xs m : List ℕ) → KeepsAllele xs → length (textBytes xs) ≤ mostBytes
+allele-given : (rest : Onward) (at : ℕ) (xs m : List ℕ) → KeepsAllele xs → length (textBytes xs) ≤ mostBytes
     → valueOne 1 Allele rest at (textBytes xs ++ m) ≡ textBytes xs ++ rest (at + length (textBytes xs)) m
 unfolding rowOf
 allele-given rest at xs m k h = text-given Allele rest at xs m refl h
 
-info-given : (strings : ℕ) (rest : Rest) (at : ℕ) (p : Pair) (m : List ℕ) → KeepsInfo strings p → length (infoBytes p) ≤ mostBytes
+info-given : (strings : ℕ) (rest : Onward) (at : ℕ) (p : Pair) (m : List ℕ) → KeepsInfo strings p → length (infoBytes p) ≤ mostBytes
     → pairOne 1 Info rest at (infoBytes p ++ m) ≡ infoBytes p ++ rest (at + length (infoBytes p)) m
 unfolding pairBytes
 info-given strings rest at p m k h =
@@ -134,18 +134,18 @@ record FieldFits (people : ℕ) (x : Field) : Type 0 where
   len : x .len < 2147483648
   count : length (x .value .elements) ≡ people * x .len
 
-field-given : (people : ℕ) (rest : Rest) (at : ℕ) (x : Field) (m : List ℕ) → FieldFits people x → length (fieldBytes x) ≤ mostBytes
-    → pairOne people Format rest at (fieldBytes x ++ m) ≡ fieldBytes x ++ rest (at + length (fieldBytes x)) m
+field-given : (people : ℕ) (rest : Onward) (at : ℕ) (x : Field) (m : List ℕ) → FieldFits people x → length (formatBytes x) ≤ mostBytes
+    → pairOne people Format rest at (formatBytes x ++ m) ≡ formatBytes x ++ rest (at + length (formatBytes x)) m
 field-given people rest at x m k h =
     pair-given people Format rest at (x .key) (x .value .kind) (x .len) (x .value .elements) m (allowed-format (x .value .kind)) (k .key) (k .len) (k .count)
 
 all-fit : (f : Facts) (alleles : ℕ) (earlier : List ℕ) (xs : List Field) → (0 < length xs → 0 < f .people) → KeepsFields f alleles earlier xs
-    → length (joined fieldBytes xs) ≤ mostBytes → All (FieldFits (f .people)) xs
+    → length (joined formatBytes xs) ≤ mostBytes → All (FieldFits (f .people)) xs
 unfolding joined
 all-fit f alleles earlier [] p k h = tt
 all-fit f alleles earlier (x ∷ xs) p k h =
     let people : 0 < f .people = p (omega arith) in
-    let n = length-append (fieldBytes x) (joined fieldBytes xs) in (
+    let n = length-append (formatBytes x) (joined formatBytes xs) in (
       record { key = k .0 .key; len = length-person f alleles earlier x people (k .0) (omega arith); count = sym (k .0 .count) },
       all-fit f alleles (earlier ++ (x .key ∷ [])) xs (λ e. people) (k .1) (omega arith),
     )
@@ -166,7 +166,7 @@ site-given f r at k h =
     let infos : repeated (pairOne 1 Info) (length (r .infos)) asItIs q d ≡ d =
     rw (append-nil d) at
     (repeated-joined (pairOne 1 Info) infoBytes (KeepsInfo (f .strings)) (info-given (f .strings)) asItIs q (r .infos) [] (k .infos) (omega arith)) in
-    ap (λ (w : Rest). w at (siteBytes r)) (site-form (f .people) (length (r .alleles)) (length (r .infos)))
+    ap (λ (w : Onward). w at (siteBytes r)) (site-form (f .people) (length (r .alleles)) (length (r .infos)))
     ∙ rw (
       text-given Id _ at (r .id) (b ++ (c ++ d)) refl (omega arith),
       repeated-joined (valueOne 1 Allele) textBytes KeepsAllele allele-given _ (at + length a) (r .alleles) (c ++ d) (k .alleles) (omega arith),
@@ -179,10 +179,10 @@ genotypes-given : (f : Facts) (r : Shown) (at : ℕ) → Keeps f r → length (g
     → onesOf (f .people) (replicate (length (r .formats)) FormatKind) at (genotypeBytes r) ≡ genotypeBytes r
 unfolding genotypeBytes
 genotypes-given f r at k h =
-    let d = joined fieldBytes (r .formats) in
-    ap (λ (w : Rest). w at d) (formats-form (f .people) (length (r .formats)))
+    let d = joined formatBytes (r .formats) in
+    ap (λ (w : Onward). w at d) (formats-form (f .people) (length (r .formats)))
     ∙ rw (append-nil d) at
-    (repeated-joined (pairOne (f .people) Format) fieldBytes (FieldFits (f .people)) (field-given (f .people)) asItIs at (r .formats) []
+    (repeated-joined (pairOne (f .people) Format) formatBytes (FieldFits (f .people)) (field-given (f .people)) asItIs at (r .formats) []
     (all-fit f (length (r .alleles)) [] (r .formats) (k .people) (k .formats) h) h)
 
 withOnes-same : (t : Site) (s : List ℕ) → idAt ≤ t .border → t .border ≤ t .length

@@ -20,11 +20,11 @@ use Rattle.fetch.specs.declared.Kind.{Kind}
 use Rattle.fetch.specs.declared.Kind.the-variants.{Id, Allele, Filter, Info, Format}
 
 -- what becomes of a block from a place on
-abbrev pub Rest : Type 0
-Rest = ℕ → List ℕ → List ℕ
+abbrev pub Onward : Type 0
+Onward = ℕ → List ℕ → List ℕ
 
 -- it stays
-abbrev pub asItIs : Rest
+abbrev pub asItIs : Onward
 asItIs at l = l
 
 -- a value's bytes, with 01 for the descriptor 00
@@ -37,23 +37,23 @@ abbrev pub sameOrOne : ℕ → ℕ → Bool
 sameOrOne x y = pick (eqb x 0) (pick (eqb y 0) true (eqb y 1)) (eqb y x)
 
 -- a value, for so many vectors of a use, and then what follows it; where there is none, the block stays
-abbrev pub pastValue : Rest → ℕ → List ℕ → Value → List ℕ
+abbrev pub pastValue : Onward → ℕ → List ℕ → Value → List ℕ
 pastValue rest at l (NoValue r) = l
 pastValue rest at l (Present t n first stop) = oneFor (take (stop - at) l) ++ rest stop (drop (stop - at) l)
 
-unfoldable pub valueOne : ℕ → Use → Rest → Rest
+unfoldable pub valueOne : ℕ → Use → Onward → Onward
 valueOne vectors role rest at l = pastValue rest at l (present vectors role at l)
 
 -- a key as it is, then its value and what follows them
-abbrev pub pastKey : Rest → ℕ → List ℕ → Integer → List ℕ
+abbrev pub pastKey : Onward → ℕ → List ℕ → Integer → List ℕ
 pastKey rest at l (NoInteger r) = l
 pastKey rest at l (One key next) = take (next - at) l ++ rest next (drop (next - at) l)
 
-unfoldable pub pairOne : ℕ → Use → Rest → Rest
+unfoldable pub pairOne : ℕ → Use → Onward → Onward
 pairOne vectors role rest at l = pastKey (valueOne vectors role rest) at l (integer Key at l)
 
 -- a field of a kind, and then what follows it
-abbrev pub oneOf : Kind → ℕ → Rest → Rest
+abbrev pub oneOf : Kind → ℕ → Onward → Onward
 oneOf Id people = valueOne 1 IdUse
 oneOf Allele people = valueOne 1 AlleleUse
 oneOf Filter people = valueOne 1 FilterUse
@@ -61,7 +61,7 @@ oneOf Info people = pairOne 1 InfoUse
 oneOf Format people = pairOne people FormatUse
 
 -- fields of these kinds, one after the other
-unfoldable pub onesOf : ℕ → List Kind → Rest
+unfoldable pub onesOf : ℕ → List Kind → Onward
 onesOf people [] = asItIs
 onesOf people (kind ∷ kinds) = oneOf kind people (onesOf people kinds)
 

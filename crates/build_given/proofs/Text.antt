@@ -11,7 +11,7 @@ use Rattle.words.specs.Words.{number, le}
 use Rattle.types.specs.Rows.{rowOf, widthOf}
 use Rattle.types.specs.Elements.{kind}
 use Rattle.values.specs.Answers.{refusal}
-use Rattle.vectors.specs.Vectors.{numbers, turned, follow, vector, vectors, andThen, judged}
+use Rattle.vectors.specs.Vectors.{numbers, elementTurn, follow, vector, vectors, andThen, judged}
 use Rattle.vectors.specs.declared.Judged.{Judged}
 use Rattle.vectors.specs.declared.Judged.the-variants.{Sound, Refused as Unsound}
 use Rattle.vectors.specs.declared.Turn.{Turn}
@@ -40,7 +40,7 @@ placeless-vector : (most t w at : ℕ) (e : Bool) (xs : List ℕ) → placeless 
 unfolding vector
 placeless-vector most t w at e [] = refl
 placeless-vector most t w at e (x ∷ xs) =
-    placeless-follow at (turned most e (kind t x) x) _ _ (λ b. placeless-vector most t w (at + w) b xs)
+    placeless-follow at (elementTurn most e (kind t x) x) _ _ (λ b. placeless-vector most t w (at + w) b xs)
 
 -- numbers of one byte each
 numbers-bytes : (n : ℕ) (l : List ℕ) → n ≤ length l → numbers 1 n l ≡ take n l

@@ -12,20 +12,20 @@ use mir.Syntax.{w32}
 use mir.Val.{ofZ}
 use Rattle.words.proofs.Sign.{bits-at}
 use Rattle.types.specs.Elements.{kind}
-use Rattle.vectors.specs.Vectors.{turned, follow, vector, andThen}
+use Rattle.vectors.specs.Vectors.{elementTurn, follow, vector, andThen}
 use Rattle.vectors.specs.declared.Judged.the-variants.{Sound}
 use Rattle.build_given.specs.Given.{vectorsGiven}
 
 -- an element, where some are left
 pub vector-turn : (xs : List ℕ) (most t : ℕ) (e : Bool) (i : ℕ) → i < length xs
     → vector most t 0 0 e (drop i xs)
-    ≡ follow 0 (turned most e (kind t (getD xs i 0)) (getD xs i 0)) (λ b. vector most t 0 0 b (drop (i + 1) xs))
+    ≡ follow 0 (elementTurn most e (kind t (getD xs i 0)) (getD xs i 0)) (λ b. vector most t 0 0 b (drop (i + 1) xs))
 unfolding vector
 vector-turn xs most t e i h = rw (drop-cons xs i 0 h, add-one i)
 
 pub vector-turn-bits : (zs : List ℤ) (most t : ℕ) (e : Bool) (i : ℕ) → i < length zs
     → vector most t 0 0 e (drop i (map (ofZ w32) zs))
-    ≡ follow 0 (turned most e (kind t (ofZ w32 (getD zs i (pos 0)))) (ofZ w32 (getD zs i (pos 0))))
+    ≡ follow 0 (elementTurn most e (kind t (ofZ w32 (getD zs i (pos 0)))) (ofZ w32 (getD zs i (pos 0))))
     (λ b. vector most t 0 0 b (drop (i + 1) (map (ofZ w32) zs)))
 vector-turn-bits zs most t e i h = rw (← bits-at zs i) (vector-turn (map (ofZ w32) zs) most t e i (rw length-map h))
 

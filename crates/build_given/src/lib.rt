@@ -184,5 +184,5 @@ pub fn judge_filters(values: &[i32], strings: u32) -> u32
 pub fn judge_allele(text: &[u8]) -> u32
     ensures { λ r. ⌜ r ≡ alleleNumber (now (text .entry)) ⌝ }
 {
-    number_of(site::judge_allele(text))
+    number_of(site::judge_allele_bytes(text))
 }

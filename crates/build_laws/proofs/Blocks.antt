@@ -25,7 +25,7 @@ use Rattle.record.specs.Shown.{Shown, Kind, integers, floats, text, Field}
 use Rattle.build_append.specs.Values.{writtenAs, givenBytes, pairBytes}
 use Rattle.build_rules.specs.Values.{givenAs}
 use Rattle.build.specs.Turns.{isIntegers}
-use Rattle.build_laws.specs.Records.{joined, textBytes, infoBytes, fieldBytes, siteBytes, All, KeepsAllele, KeepsInfo, KeepsField, KeepsFields, Keeps}
+use Rattle.build_laws.specs.Records.{joined, textBytes, infoBytes, formatBytes, siteBytes, All, KeepsAllele, KeepsInfo, KeepsField, KeepsFields, Keeps}
 use Rattle.build_laws.proofs.Values.{length-given, drop-front, sound-given, id-given, allele-given, filter-given, keyed-bytes, info-given}
 
 -- a step past each of a list is so many steps past all
@@ -95,7 +95,7 @@ allowed-role key gt k h = by-key (eqb key gt) refl
 
 -- the length for each person is no more than the elements of all
 pub length-person : (f : Facts) (alleles : ℕ) (earlier : List ℕ) (x : Field) → 0 < f .people → KeepsField f alleles earlier x
-    → length (fieldBytes x) ≤ mostBytes → x .len < 2147483648
+    → length (formatBytes x) ≤ mostBytes → x .len < 2147483648
 unfolding pairBytes
 length-person f alleles earlier x p k h =
     let xs = x .value .elements in
@@ -120,8 +120,8 @@ gtAfter f known at x =
 
 -- one FORMAT field, before whatever follows it
 formats-field : (f : Facts) (alleles n : ℕ) (earlier : List ℕ) (known : Gt) (at : ℕ) (x : Field) (rest : List ℕ) → 0 < f .people
-    → KeepsField f alleles earlier x → length (fieldBytes x) ≤ mostBytes
-    → formats (f .strings) (f .people) (f .gt) alleles (suc n) earlier known at (fieldBytes x ++ rest)
+    → KeepsField f alleles earlier x → length (formatBytes x) ≤ mostBytes
+    → formats (f .strings) (f .people) (f .gt) alleles (suc n) earlier known at (formatBytes x ++ rest)
     ≡ formats (f .strings) (f .people) (f .gt) alleles n (earlier ++ (x .key ∷ [])) (gtAfter f known at x) (valueEnd at x) rest
 unfolding formats pairBytes
 formats-field f alleles n earlier known at x rest p k h =
@@ -141,17 +141,17 @@ formats-field f alleles n earlier known at x rest p k h =
 -- the genotype block, with where GT stands
 pub record Genotyped (f : Facts) (alleles : ℕ) (earlier : List ℕ) (known : Gt) (at : ℕ) (xs : List Field) : Type 0 where
   pub gt : Gt
-  pub read : formats (f .strings) (f .people) (f .gt) alleles (length xs) earlier known at (joined fieldBytes xs) ≡ Sound gt
+  pub read : formats (f .strings) (f .people) (f .gt) alleles (length xs) earlier known at (joined formatBytes xs) ≡ Sound gt
 
 pub formats-bytes : (f : Facts) (alleles : ℕ) (earlier : List ℕ) (known : Gt) (at : ℕ) (xs : List Field) → (0 < length xs → 0 < f .people)
-    → KeepsFields f alleles earlier xs → length (joined fieldBytes xs) ≤ mostBytes → Genotyped f alleles earlier known at xs
+    → KeepsFields f alleles earlier xs → length (joined formatBytes xs) ≤ mostBytes → Genotyped f alleles earlier known at xs
 unfolding joined formats
 formats-bytes f alleles earlier known at [] p k h = record { gt = known; read = refl }
 formats-bytes f alleles earlier known at (x ∷ xs) p k h =
     let people : 0 < f .people = p (omega arith) in
-    let n = length-append (fieldBytes x) (joined fieldBytes xs) in
+    let n = length-append (formatBytes x) (joined formatBytes xs) in
     let on = formats-bytes f alleles (earlier ++ (x .key ∷ [])) (gtAfter f known at x) (valueEnd at x) xs (λ e. people) (k .1) (omega arith) in
     record {
       gt = on .gt;
-      read = formats-field f alleles (length xs) earlier known at x (joined fieldBytes xs) people (k .0) (omega arith) ∙ on .read;
+      read = formats-field f alleles (length xs) earlier known at x (joined formatBytes xs) people (k .0) (omega arith) ∙ on .read;
     }

@@ -18,7 +18,7 @@ use Rattle.types.specs.declared.Element.{Element}
 use Rattle.types.specs.declared.Element.the-variants.{Plain, Missing, End, Reserved}
 use Rattle.types.specs.declared.Use.{Use}
 use Rattle.vectors.specs.Sound.{mostOf}
-use Rattle.vectors.specs.Vectors.{numbers, shownNumbers, turned, follow, vector, andThen, vectors, judged}
+use Rattle.vectors.specs.Vectors.{numbers, shownNumbers, elementTurn, follow, vector, andThen, vectors, judged}
 use Rattle.vectors.specs.declared.Judged.{Judged}
 use Rattle.vectors.specs.declared.Judged.the-variants.{Sound, Refused as Unsound}
 use Rattle.encode.specs.Encode.{narrowed, elementsBytes}
@@ -74,8 +74,8 @@ number-vector most t w at e (x ∷ xs) h = by-kind (kind t x) e h (λ b. number-
     rest : Bool → Judged
     rest b = vector most t w (at + w) b xs
 
-    by-kind : (k : Element) (b : Bool) → numberOf (follow at (turned most b k x) rest) ≡ 0
-        → ((b : Bool) → numberOf (rest b) ≡ 0 → rest b ≡ Sound) → follow at (turned most b k x) rest ≡ Sound
+    by-kind : (k : Element) (b : Bool) → numberOf (follow at (elementTurn most b k x) rest) ≡ 0
+        → ((b : Bool) → numberOf (rest b) ≡ 0 → rest b ≡ Sound) → follow at (elementTurn most b k x) rest ≡ Sound
     by-kind End b s on = on true s
     by-kind Reserved b s on = absurd (omega arith)
     by-kind Missing true s on = absurd (omega arith)
@@ -83,7 +83,7 @@ number-vector most t w at e (x ∷ xs) h = by-kind (kind t x) e h (λ b. number-
     by-kind Plain true s on = absurd (omega arith)
     by-kind Plain false s on = by-most (ltb most x) refl
       where
-        by-most : (q : Bool) → ltb most x ≡ q → follow at (turned most false Plain x) rest ≡ Sound
+        by-most : (q : Bool) → ltb most x ≡ q → follow at (elementTurn most false Plain x) rest ≡ Sound
         by-most true p = let z = rw p at s in absurd (omega arith)
         by-most false p = rw p (on false (rw p at s))
 
@@ -101,8 +101,8 @@ vector-stored t g w w′ at at′ alleles role e (x ∷ xs) f h =
     held : Bool → Judged
     held b = vector (mostOf role alleles t) t w′ (at′ + w′) b (map (stored t) xs)
 
-    by-kind : (k : Element) (b : Bool) → follow at (turned (mostOf role alleles g) b k x) given ≡ Sound → ((b : Bool) → given b ≡ Sound → held b ≡ Sound)
-        → follow at′ (turned (mostOf role alleles t) b k (stored t x)) held ≡ Sound
+    by-kind : (k : Element) (b : Bool) → follow at (elementTurn (mostOf role alleles g) b k x) given ≡ Sound → ((b : Bool) → given b ≡ Sound → held b ≡ Sound)
+        → follow at′ (elementTurn (mostOf role alleles t) b k (stored t x)) held ≡ Sound
     by-kind End b s on = on true s
     by-kind Reserved b s on = cc
     by-kind Missing true s on = cc
@@ -110,7 +110,7 @@ vector-stored t g w w′ at at′ alleles role e (x ∷ xs) f h =
     by-kind Plain true s on = cc
     by-kind Plain false s on = by-most (ltb (mostOf role alleles g) x) refl
       where
-        by-most : (q : Bool) → ltb (mostOf role alleles g) x ≡ q → follow at′ (turned (mostOf role alleles t) false Plain (stored t x)) held ≡ Sound
+        by-most : (q : Bool) → ltb (mostOf role alleles g) x ≡ q → follow at′ (elementTurn (mostOf role alleles t) false Plain (stored t x)) held ≡ Sound
         by-most true p = let z = rw p at s in cc
         by-most false p =
             let i = f .0 .under role alleles (ltb-false (mostOf role alleles g) x p) in

@@ -11,7 +11,7 @@ use Rattle.fixed.specs.declared.Facts.{Facts}
 use Rattle.record.specs.Shown.{Shown, Pair, Field}
 use Rattle.build.specs.Turns.{freshState}
 use Rattle.build.specs.declared.Builder.{Builder}
-use Rattle.build_laws.specs.Records.{joined, fieldBytes, genotypeBytes, recordBytes, All, KeepsAllele, KeepsInfo, KeepsFields, Keeps}
+use Rattle.build_laws.specs.Records.{joined, formatBytes, genotypeBytes, recordBytes, All, KeepsAllele, KeepsInfo, KeepsFields, Keeps}
 use Rattle.build_laws.specs.Runs.{Turn, allele, info, format, end, Run, turnsOf, gives, FitTurn, Finished}
 use Rattle.build_laws.proofs.Blocks.{length-person}
 use Rattle.build_laws.proofs.Front.{length-recordBytes}
@@ -93,12 +93,12 @@ infos-fit strings [] k = tt
 infos-fit strings (x ∷ xs) k = ((k .0 .key, k .0 .fit), infos-fit strings xs (k .1))
 
 formats-fit : (f : Facts) (alleles : ℕ) (earlier : List ℕ) (xs : List Field) → (0 < length xs → 0 < f .people) → KeepsFields f alleles earlier xs
-    → length (joined fieldBytes xs) ≤ mostBytes → All FitTurn (map format xs)
+    → length (joined formatBytes xs) ≤ mostBytes → All FitTurn (map format xs)
 unfolding joined
 formats-fit f alleles earlier [] p k h = tt
 formats-fit f alleles earlier (x ∷ xs) p k h =
     let people : 0 < f .people = p (omega arith) in
-    let n = length-append (fieldBytes x) (joined fieldBytes xs) in
+    let n = length-append (formatBytes x) (joined formatBytes xs) in
     let len = length-person f alleles earlier x people (k .0) (omega arith) in
     ((k .0 .key, omega arith, k .0 .fit), formats-fit f alleles (earlier ++ (x .key ∷ [])) xs (λ _. people) (k .1) (omega arith))
 

@@ -20,7 +20,7 @@ use Rattle.build.specs.declared.Builder.{Builder}
 use Rattle.build_append.proofs.Numbers.{first-zero}
 use Rattle.build_rules.proofs.Numbers.{reach-zero}
 use Rattle.words.specs.Words.{bytes}
-use Rattle.build_laws.specs.Records.{joined, textBytes, infoBytes, fieldBytes, All, Fit, KeepsAllele, KeepsInfo, KeepsFields}
+use Rattle.build_laws.specs.Records.{joined, textBytes, infoBytes, formatBytes, All, Fit, KeepsAllele, KeepsInfo, KeepsFields}
 use Rattle.build_laws.specs.Runs.{Turn, begin, allele, info, format, end, FitTurn, Run, done}
 use Rattle.build_laws.proofs.Steps.{run-first, run-next}
 use Rattle.build_laws.proofs.Stands.{stands, RunFrom, Fits, fits-front, first-right, order-right, allele-run, allele-back, info-run, info-back, format-run, format-back}
@@ -113,31 +113,31 @@ keys-on keys key = length-append keys (key ∷ [])
 pub formats-run : {f : Facts} {start : List ℕ} {s : Stage} {border : ℕ} {whole : List ℕ} {a i : ℕ} {keys : List ℕ}
     {rest : List Turn} {last : Builder} {out : List ℕ}
     → (xs : List Field) → (4 ≤ rank s) × (rank s ≤ 6) → (0 < length xs → 0 < f .people) → KeepsFields f a keys xs → length keys + length xs ≤ 255
-    → Fits start (whole ++ joined fieldBytes xs)
-    → RunFrom f start (lastStage s Formats xs) border (whole ++ joined fieldBytes xs) a i (keys ++ keysOf xs) rest last out
+    → Fits start (whole ++ joined formatBytes xs)
+    → RunFrom f start (lastStage s Formats xs) border (whole ++ joined formatBytes xs) a i (keys ++ keysOf xs) rest last out
     → RunFrom f start s border whole a i keys (map format xs ++ rest) last out
 unfolding joined
 formats-run {f} {start} {s} {border} {whole} {a} {i} {keys} [] o p k c r run = rw (append-nil whole, append-nil keys) at run
 formats-run {f} {start} {s} {border} {whole} {a} {i} {keys} (x ∷ xs) o p k c r run =
     let people : 0 < f .people = p (omega arith) in
-    let e = sym (append-assoc whole (fieldBytes x) (joined fieldBytes xs)) in
+    let e = sym (append-assoc whole (formatBytes x) (joined formatBytes xs)) in
     let n = sym (append-snoc keys (x .key) (keysOf xs)) in
     let l = keys-on keys (x .key) in
-    let r′ : Fits start (whole ++ fieldBytes x ++ joined fieldBytes xs) = rw e at r in
-    format-run o people (k .0) (omega arith) (fits-front start (whole ++ fieldBytes x) (joined fieldBytes xs) r′)
+    let r′ : Fits start (whole ++ formatBytes x ++ joined formatBytes xs) = rw e at r in
+    format-run o people (k .0) (omega arith) (fits-front start (whole ++ formatBytes x) (joined formatBytes xs) r′)
     (formats-run xs (omega arith, omega arith) (λ _. people) (k .1) (omega arith) r′ (rw (e, n) at run))
 
 pub formats-back : {f : Facts} {start : List ℕ} {s : Stage} {border : ℕ} {whole : List ℕ} {a i : ℕ} {keys : List ℕ}
     {rest : List Turn} {last : Builder} {out : List ℕ}
     → (xs : List Field) → All (λ x. FitTurn (format x)) xs → length keys ≤ 255 → Fits start whole
     → RunFrom f start s border whole a i keys (map format xs ++ rest) last out
-    → KeepsFields f a keys xs × (0 < length xs → 0 < f .people) × (length keys + length xs ≤ 255) × Fits start (whole ++ joined fieldBytes xs)
-    × RunFrom f start (lastStage s Formats xs) border (whole ++ joined fieldBytes xs) a i (keys ++ keysOf xs) rest last out
+    → KeepsFields f a keys xs × (0 < length xs → 0 < f .people) × (length keys + length xs ≤ 255) × Fits start (whole ++ joined formatBytes xs)
+    × RunFrom f start (lastStage s Formats xs) border (whole ++ joined formatBytes xs) a i (keys ++ keysOf xs) rest last out
 unfolding joined
 formats-back {f} {start} {s} {border} {whole} {a} {i} {keys} [] t c r run =
     (tt, λ e. absurd (omega arith), omega arith, rw (append-nil whole) r, rw (append-nil whole, append-nil keys) run)
 formats-back {f} {start} {s} {border} {whole} {a} {i} {keys} (x ∷ xs) t c r run =
-    let e = sym (append-assoc whole (fieldBytes x) (joined fieldBytes xs)) in
+    let e = sym (append-assoc whole (formatBytes x) (joined formatBytes xs)) in
     let n = sym (append-snoc keys (x .key) (keysOf xs)) in
     let l = keys-on keys (x .key) in
     let one = format-back (t .0) run in

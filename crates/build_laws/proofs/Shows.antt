@@ -26,7 +26,7 @@ use Rattle.contents.specs.Contents.{shownOf}
 use Rattle.contents.proofs.Blocks.{item, bytesOf, pairOf, formatOf, itemsOf, eachIn, blocksShown, shown-blocks}
 use Rattle.build_append.specs.Values.{writtenAs, givenBytes, pairBytes}
 use Rattle.build_rules.specs.Values.{givenAs}
-use Rattle.build_laws.specs.Records.{joined, textBytes, infoBytes, fieldBytes, siteBytes, genotypeBytes, recordBytes, All, Fit, KeepsAllele, KeepsInfo, KeepsFields, Keeps}
+use Rattle.build_laws.specs.Records.{joined, textBytes, infoBytes, formatBytes, siteBytes, genotypeBytes, recordBytes, All, Fit, KeepsAllele, KeepsInfo, KeepsFields, Keeps}
 use Rattle.build_laws.proofs.Widths.{widest-types, held-written}
 use Rattle.build_laws.proofs.Elements.{length-elementsBytes, shownNumbers-elements}
 use Rattle.build_laws.proofs.Values.{written-type, one-vector, present-given, drop-front, elements-drop, elements-size, integer-bytes, key-bits, allowed-info}
@@ -135,21 +135,21 @@ pairs-given strings at (p ∷ ps) k h =
 
 -- FORMAT fields
 fields-given : (f : Facts) (alleles : ℕ) (earlier : List ℕ) (at : ℕ) (xs : List Field) → (0 < length xs → 0 < f .people)
-    → KeepsFields f alleles earlier xs → length (joined fieldBytes xs) ≤ mostBytes
-    → map formatOf (itemsOf (f .people) (replicate (length xs) FormatKind) at (joined fieldBytes xs)) ≡ xs
+    → KeepsFields f alleles earlier xs → length (joined formatBytes xs) ≤ mostBytes
+    → map formatOf (itemsOf (f .people) (replicate (length xs) FormatKind) at (joined formatBytes xs)) ≡ xs
 unfolding itemsOf joined
 fields-given f alleles earlier at [] p k h = refl
 fields-given f alleles earlier at (x ∷ xs) p k h =
     let els = x .value .elements in
-    let rest = joined fieldBytes xs in
-    let n = length-append (fieldBytes x) rest in
+    let rest = joined formatBytes xs in
+    let n = length-append (formatBytes x) rest in
     let people : 0 < f .people = p (omega arith) in
     ap (map formatOf) (items-pair FormatKind (replicate (length xs) FormatKind) (f .people) (f .people) Format at (x .key) (x .value .kind) (x .len) els
     rest (λ at l. refl) (allowed-format (x .value .kind)) (key-bits (f .strings) (x .key) (k .0 .inside))
     (length-person f alleles earlier x people (k .0) (omega arith)) (sym (k .0 .count)) (k .0 .fit))
     ∙ rw (
       kindOf-written (x .value .kind) els,
-      fields-given f alleles (earlier ++ (x .key ∷ [])) (at + length (fieldBytes x)) xs (λ e. people) (k .1) (omega arith),
+      fields-given f alleles (earlier ++ (x .key ∷ [])) (at + length (formatBytes x)) xs (λ e. people) (k .1) (omega arith),
     )
 
 -- what the site block shows, of each kind

@@ -28,7 +28,7 @@ use Rattle.build.specs.declared.Stage.{Stage}
 use Rattle.build.specs.declared.Stage.the-variants.{Named, Alleles, Filtered, Infos, Formats}
 use Rattle.build.specs.declared.Builder.{Builder}
 use Rattle.build_append.proofs.Numbers.{first-zero, room-zero}
-use Rattle.build_laws.specs.Records.{textBytes, infoBytes, fieldBytes, Fit, KeepsAllele, KeepsInfo, KeepsField}
+use Rattle.build_laws.specs.Records.{textBytes, infoBytes, formatBytes, Fit, KeepsAllele, KeepsInfo, KeepsField}
 use Rattle.build_laws.specs.Runs.{Turn, id, allele, filter, info, format, FitTurn, Run}
 use Rattle.build_laws.proofs.Steps.{turnNumber, turnState, turnBuffer, run-first, run-next}
 
@@ -328,14 +328,14 @@ list-right people len count h = rw (eq-eqb (people * len) count h)
 
 format-appends : (f : Facts) (start : List ℕ) (s : Stage) (border : ℕ) (whole : List ℕ) (a i : ℕ) (keys : List ℕ) (x : Field)
     → Appends f (stands f s border whole a i keys) start whole (format x)
-    (stands f Formats border (whole ++ fieldBytes x) a i (keys ++ (x .key ∷ []))) (fieldBytes x)
+    (stands f Formats border (whole ++ formatBytes x) a i (keys ++ (x .key ∷ []))) (formatBytes x)
 format-appends f start s border whole a i keys x =
-    record { state = state-field f s border whole (fieldBytes x) a i keys (x .key); buffer = refl }
+    record { state = state-field f s border whole (formatBytes x) a i keys (x .key); buffer = refl }
 
 pub format-run : {f : Facts} {start : List ℕ} {s : Stage} {border : ℕ} {whole : List ℕ} {a i : ℕ} {keys : List ℕ} {x : Field}
     {rest : List Turn} {last : Builder} {out : List ℕ}
-    → (4 ≤ rank s) × (rank s ≤ 6) → 0 < f .people → KeepsField f a keys x → length keys < 255 → Fits start (whole ++ fieldBytes x)
-    → RunFrom f start Formats border (whole ++ fieldBytes x) a i (keys ++ (x .key ∷ [])) rest last out
+    → (4 ≤ rank s) × (rank s ≤ 6) → 0 < f .people → KeepsField f a keys x → length keys < 255 → Fits start (whole ++ formatBytes x)
+    → RunFrom f start Formats border (whole ++ formatBytes x) a i (keys ++ (x .key ∷ [])) rest last out
     → RunFrom f start s border whole a i keys (format x ∷ rest) last out
 unfolding formatRules formatCount formatOrder formatKey formatShape
 format-run {f} {start} {s} {border} {whole} {a} {i} {keys} {x} o p k c r run =
@@ -351,14 +351,14 @@ format-run {f} {start} {s} {border} {whole} {a} {i} {keys} {x} o p k c r run =
           (first-right _ _ (gt-right (f .gt) (x .key) (isIntegers (x .value .kind)) (k .whole))
           (list-right (f .people) (x .len) (length (x .value .elements)) (k .count)))
           (k .rules))))
-          (room-right start whole (fieldBytes x) r)) (run .run);
+          (room-right start whole (formatBytes x) r)) (run .run);
     }
 
 pub format-back : {f : Facts} {start : List ℕ} {s : Stage} {border : ℕ} {whole : List ℕ} {a i : ℕ} {keys : List ℕ} {x : Field}
     {rest : List Turn} {last : Builder} {out : List ℕ}
     → FitTurn (format x) → RunFrom f start s border whole a i keys (format x ∷ rest) last out
-    → KeepsField f a keys x × (0 < f .people) × (length keys < 255) × Fits start (whole ++ fieldBytes x)
-    × RunFrom f start Formats border (whole ++ fieldBytes x) a i (keys ++ (x .key ∷ [])) rest last out
+    → KeepsField f a keys x × (0 < f .people) × (length keys < 255) × Fits start (whole ++ formatBytes x)
+    × RunFrom f start Formats border (whole ++ formatBytes x) a i (keys ++ (x .key ∷ [])) rest last out
 unfolding formatRules formatCount formatOrder formatKey formatShape
 format-back {f} {start} {s} {border} {whole} {a} {i} {keys} {x} fit run =
     let on = append-back (format-appends f start s border whole a i keys x) (run .run) in
@@ -382,6 +382,6 @@ format-back {f} {start} {s} {border} {whole} {a} {i} {keys} {x} fit run =
       },
       people-zero (f .people) (w .0),
       c,
-      room-fits start whole (fieldBytes x) (z .1),
+      room-fits start whole (formatBytes x) (z .1),
       record { run = on .1 },
     )

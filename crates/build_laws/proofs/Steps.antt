@@ -20,7 +20,7 @@ use Rattle.build.specs.declared.Stage.the-variants.{Named, Alleles, Filtered, I
 use Rattle.build.specs.declared.Builder.{Builder}
 use Rattle.build.specs.declared.Answer.the-variants.{Taken}
 use Rattle.build.specs.declared.Turned.{Turned}
-use Rattle.build_laws.specs.Records.{textBytes, infoBytes, fieldBytes}
+use Rattle.build_laws.specs.Records.{textBytes, infoBytes, formatBytes}
 use Rattle.build_laws.specs.Runs.{Turn, begin, id, allele, filter, info, format, end, answers, writes, Run, done, next}
 
 -- the number of a turn
@@ -32,7 +32,7 @@ turnNumber f st room (filter xs) = firstOf (filterRules st xs) (roomNumber (st .
 turnNumber f st room (info p) =
     firstOf (infoRules st (p .key) (p .value .kind) (p .value .elements)) (roomNumber (st .at) (length (infoBytes p)) room)
 turnNumber f st room (format x) =
-    firstOf (formatRules st (x .key) (x .value .kind) (x .len) (x .value .elements)) (roomNumber (st .at) (length (fieldBytes x)) room)
+    firstOf (formatRules st (x .key) (x .value .kind) (x .len) (x .value .elements)) (roomNumber (st .at) (length (formatBytes x)) room)
 turnNumber f st room end = endNumber (st .stage) room
 
 -- the state and the buffer after a turn that is taken
@@ -42,7 +42,7 @@ turnState f st (id xs) = inSite st Named (st .alleles) (st .infos) (length (text
 turnState f st (allele xs) = inSite st Alleles (st .alleles + 1) (st .infos) (length (textBytes xs))
 turnState f st (filter xs) = inSite st Filtered (st .alleles) (st .infos) (length (givenBytes integers (length xs) xs))
 turnState f st (info p) = inSite st Infos (st .alleles) (st .infos + 1) (length (infoBytes p))
-turnState f st (format x) = inGenotypes st (x .key) (length (fieldBytes x))
+turnState f st (format x) = inGenotypes st (x .key) (length (formatBytes x))
 turnState f st end = endedState st
 
 abbrev pub turnBuffer : Builder → List ℕ → Turn → List ℕ
@@ -51,7 +51,7 @@ turnBuffer st buf (id xs) = sets buf (st .at) (textBytes xs)
 turnBuffer st buf (allele xs) = sets buf (st .at) (textBytes xs)
 turnBuffer st buf (filter xs) = sets buf (st .at) (givenBytes integers (length xs) xs)
 turnBuffer st buf (info p) = sets buf (st .at) (infoBytes p)
-turnBuffer st buf (format x) = sets buf (st .at) (fieldBytes x)
+turnBuffer st buf (format x) = sets buf (st .at) (formatBytes x)
 turnBuffer st buf end = filledIn st buf
 
 answers-turned : (f : Facts) (st : Builder) (room : ℕ) (x : Turn) → answers f st room x ≡ turned st (turnNumber f st room x) (turnState f st x)

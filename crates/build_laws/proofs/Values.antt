@@ -14,7 +14,7 @@ use Rattle.words.specs.Lists.{among}
 use Rattle.words.specs.Pick.{pick}
 use Rattle.words.specs.Words.{bytes, outside}
 use Rattle.words.proofs.Words.{length-bytes}
-use Rattle.types.specs.Rows.{integer as wholeRow, rowOf, widthOf, allowed}
+use Rattle.types.specs.Rows.{integerRow, rowOf, widthOf, allowed}
 use Rattle.types.specs.Elements.{narrowest}
 use Rattle.types.specs.declared.Use.{Use}
 use Rattle.types.specs.declared.Use.the-variants.{Id, Allele, Filter, Key, Length, Info, Format, Gt}
@@ -53,7 +53,7 @@ by-type P a b c (suc (suc (suc zero))) h k = c
 by-type P a b c (suc (suc (suc (suc t)))) h k = absurd (omega arith)
 
 -- the integer types have the same uses
-same-uses : (w v : ℕ) (role : Use) → allowed (wholeRow w) role ≡ allowed (wholeRow v) role
+same-uses : (w v : ℕ) (role : Use) → allowed (integerRow w) role ≡ allowed (integerRow v) role
 same-uses w v Id = refl
 same-uses w v Allele = refl
 same-uses w v Filter = refl

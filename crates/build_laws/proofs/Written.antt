@@ -20,7 +20,7 @@ use Rattle.build.specs.Turns.{freshState, endedState, filledIn}
 use Rattle.build.specs.declared.Stage.{Stage}
 use Rattle.build.specs.declared.Stage.the-variants.{Named, Alleles, Filtered, Infos, Formats, Ended}
 use Rattle.build.specs.declared.Builder.{Builder}
-use Rattle.build_laws.specs.Records.{joined, textBytes, infoBytes, fieldBytes, siteBytes, genotypeBytes, filledFront, recordBytes, Keeps}
+use Rattle.build_laws.specs.Records.{joined, textBytes, infoBytes, formatBytes, siteBytes, genotypeBytes, filledFront, recordBytes, Keeps}
 use Rattle.build_laws.specs.Runs.{format, end, Run, turnsOf}
 use Rattle.build_laws.proofs.Front.{length-recordBytes}
 use Rattle.build_laws.proofs.Stands.{stands, RunFrom, Fits, fits-front, id-run, filter-run}
@@ -43,7 +43,7 @@ abbrev pub sited : Shown → List ℕ
 sited r = filtered r ++ joined infoBytes (r .infos)
 
 abbrev pub wholly : Shown → List ℕ
-wholly r = sited r ++ joined fieldBytes (r .formats)
+wholly r = sited r ++ joined formatBytes (r .formats)
 
 sited-site : (r : Shown) → sited r ≡ fronted r ++ siteBytes r
 unfolding siteBytes
@@ -56,7 +56,7 @@ sited-site r =
 
 wholly-blocks : (r : Shown) → wholly r ≡ fronted r ++ (siteBytes r ++ genotypeBytes r)
 unfolding genotypeBytes
-wholly-blocks r = rw (sited-site r, append-assoc (fronted r) (siteBytes r) (joined fieldBytes (r .formats)))
+wholly-blocks r = rw (sited-site r, append-assoc (fronted r) (siteBytes r) (joined formatBytes (r .formats)))
 
 length-sited : (r : Shown) → length (sited r) ≡ idAt + length (siteBytes r)
 length-sited r = rw (sited-site r, length-append (fronted r) (siteBytes r), length-frontBytes (r .chrom) (r .pos) (r .rlen) (r .qual))
@@ -139,7 +139,7 @@ run-turns f r buf k h =
     let m = length-recordBytes (f .people) r in
     let most = k .most in
     let w₅ : Fits buf (wholly r) = (omega arith, omega arith) in
-    let w₄ = fits-front buf (sited r) (joined fieldBytes (r .formats)) w₅ in
+    let w₄ = fits-front buf (sited r) (joined formatBytes (r .formats)) w₅ in
     let w₃ = fits-front buf (filtered r) (joined infoBytes (r .infos)) w₄ in
     let w₂ = fits-front buf (alleled r) (givenBytes integers (length (r .filters)) (r .filters)) w₃ in
     let w₁ = fits-front buf (named r) (joined textBytes (r .alleles)) w₂ in

@@ -31,8 +31,8 @@ textBytes xs = givenBytes text (length xs) xs
 abbrev pub infoBytes : Pair → List ℕ
 infoBytes p = pairBytes (p .key) (p .value .kind) (length (p .value .elements)) (p .value .elements)
 
-abbrev pub fieldBytes : Field → List ℕ
-fieldBytes x = pairBytes (x .key) (x .value .kind) (x .len) (x .value .elements)
+abbrev pub formatBytes : Field → List ℕ
+formatBytes x = pairBytes (x .key) (x .value .kind) (x .len) (x .value .elements)
 
 -- the two blocks
 unfoldable pub siteBytes : Shown → List ℕ
@@ -41,7 +41,7 @@ siteBytes r =
     ++ (joined textBytes (r .alleles) ++ (givenBytes integers (length (r .filters)) (r .filters) ++ joined infoBytes (r .infos)))
 
 unfoldable pub genotypeBytes : Shown → List ℕ
-genotypeBytes r = joined fieldBytes (r .formats)
+genotypeBytes r = joined formatBytes (r .formats)
 
 -- the first bytes with both block lengths and both count fields filled in
 unfoldable pub filledFront : ℕ → Shown → List ℕ

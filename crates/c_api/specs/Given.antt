@@ -7,13 +7,13 @@ use Rattle.fetch.specs.declared.Kind.{Kind}
 use Rattle.fetch.specs.declared.Kind.the-variants.{Id, Allele, Filter, Info, Format}
 
 -- the facts, in the order of the first line of frames
-abbrev pub factsOf : ℕ → ℕ → ℕ → ℕ → Facts
-factsOf strings contigs people gt = record { strings = strings; contigs = contigs; people = people; gt = gt }
+abbrev pub factsGiven : ℕ → ℕ → ℕ → ℕ → Facts
+factsGiven strings contigs people gt = record { strings = strings; contigs = contigs; people = people; gt = gt }
 
 -- the kinds of fields, counted from 0
-unfoldable pub kindOf : ℕ → Kind
-kindOf kind = pick (eqb kind 1) Allele (pick (eqb kind 2) Filter (pick (eqb kind 3) Info (pick (eqb kind 4) Format Id)))
+unfoldable pub kindGiven : ℕ → Kind
+kindGiven kind = pick (eqb kind 1) Allele (pick (eqb kind 2) Filter (pick (eqb kind 3) Info (pick (eqb kind 4) Format Id)))
 
 -- a kind outside the five has no field, just as ID has none of number 1
-unfoldable pub numberOf : ℕ → ℕ → ℕ
-numberOf kind number = pick (ltb 4 kind) 1 number
+unfoldable pub numberGiven : ℕ → ℕ → ℕ
+numberGiven kind number = pick (ltb 4 kind) 1 number

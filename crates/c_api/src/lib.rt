@@ -16,13 +16,13 @@ ghost use Rattle.walker.specs.Walk.{opened, pairAt};
 ghost use Rattle.build.specs.Turns.{begun, afterBegin, idGiven, afterId, alleleGiven, afterAllele, filterGiven, afterFilter, infoGiven, afterInfo, formatGiven, afterFormat, built, afterEnd};
 ghost use Rattle.c_answers.specs.Told.{siteTold, readingAnswer, readingNumbers, foundAnswer, foundNumbers, pairAnswer, pairNumbers, openingAnswer, shownAnswer, talliedAnswer, talliedNumbers, choosingAnswer};
 ghost use Rattle.c_state.specs.Kept.{stateOf, turnAnswer, turnNumbers, freshAnswer, freshNumbers};
-ghost use Rattle.c_api.specs.Given.{factsOf, kindOf, numberOf};
+ghost use Rattle.c_api.specs.Given.{factsGiven, kindGiven, numberGiven};
 use fetch::Kind;
 use fixed::Facts;
 
 // The kind of a number.
-fn kind_of(kind: u32) -> Kind
-    ensures { λ r. ⌜ r ≡ kindOf kind ⌝ }
+fn kind_given(kind: u32) -> Kind
+    ensures { λ r. ⌜ r ≡ kindGiven kind ⌝ }
 {
     if kind == 1 {
         return Kind::Allele;
@@ -40,8 +40,8 @@ fn kind_of(kind: u32) -> Kind
 }
 
 // The number to look for: that of no field for a kind outside the five.
-fn number_of(kind: u32, number: u32) -> u32
-    ensures { λ r. ⌜ r ≡ numberOf kind number ⌝ }
+fn number_given(kind: u32, number: u32) -> u32
+    ensures { λ r. ⌜ r ≡ numberGiven kind number ⌝ }
 {
     if 4 < kind {
         return 1;
@@ -59,8 +59,8 @@ pub extern "C" fn sikalumdo_read(
     gt: u32,
     out: &mut [u64],
 ) -> u64
-    ensures told { λ r. ⌜ r ≡ readingAnswer (length (now (out .entry))) (reading (factsOf strings contigs people gt) (now (s .entry))) ⌝ }
-    ensures written { λ _. ⌜ now (out .exit) ≡ readingNumbers (now (out .entry)) (reading (factsOf strings contigs people gt) (now (s .entry))) ⌝ }
+    ensures told { λ r. ⌜ r ≡ readingAnswer (length (now (out .entry))) (reading (factsGiven strings contigs people gt) (now (s .entry))) ⌝ }
+    ensures written { λ _. ⌜ now (out .exit) ≡ readingNumbers (now (out .entry)) (reading (factsGiven strings contigs people gt) (now (s .entry))) ⌝ }
 {
     let facts = Facts {
         strings,
@@ -83,8 +83,8 @@ pub extern "C" fn sikalumdo_fetch(
     number: u32,
     out: &mut [u64],
 ) -> u64
-    ensures told { λ r. ⌜ r ≡ foundAnswer (length (now (out .entry))) (found (factsOf strings contigs people gt) (kindOf kind) (numberOf kind number) (now (s .entry))) ⌝ }
-    ensures written { λ _. ⌜ now (out .exit) ≡ foundNumbers (now (out .entry)) (found (factsOf strings contigs people gt) (kindOf kind) (numberOf kind number) (now (s .entry))) ⌝ }
+    ensures told { λ r. ⌜ r ≡ foundAnswer (length (now (out .entry))) (found (factsGiven strings contigs people gt) (kindGiven kind) (numberGiven kind number) (now (s .entry))) ⌝ }
+    ensures written { λ _. ⌜ now (out .exit) ≡ foundNumbers (now (out .entry)) (found (factsGiven strings contigs people gt) (kindGiven kind) (numberGiven kind number) (now (s .entry))) ⌝ }
 {
     let facts = Facts {
         strings,
@@ -92,7 +92,7 @@ pub extern "C" fn sikalumdo_fetch(
         people,
         gt,
     };
-    let f = fetch::find(s, facts, kind_of(kind), number_of(kind, number));
+    let f = fetch::find(s, facts, kind_given(kind), number_given(kind, number));
     c_answers::tell_found(f, out)
 }
 
@@ -105,14 +105,14 @@ pub extern "C" fn sikalumdo_field_of(
     number: u32,
     out: &mut [u64],
 ) -> u64
-    ensures told { λ r. ⌜ r ≡ foundAnswer (length (now (out .entry))) (fieldOf (kindOf kind) (numberOf kind number) (siteTold (now (site .entry))) (now (s .entry))) ⌝ }
-    ensures written { λ _. ⌜ now (out .exit) ≡ foundNumbers (now (out .entry)) (fieldOf (kindOf kind) (numberOf kind number) (siteTold (now (site .entry))) (now (s .entry))) ⌝ }
+    ensures told { λ r. ⌜ r ≡ foundAnswer (length (now (out .entry))) (fieldOf (kindGiven kind) (numberGiven kind number) (siteTold (now (site .entry))) (now (s .entry))) ⌝ }
+    ensures written { λ _. ⌜ now (out .exit) ≡ foundNumbers (now (out .entry)) (fieldOf (kindGiven kind) (numberGiven kind number) (siteTold (now (site .entry))) (now (s .entry))) ⌝ }
 {
     let f = fetch::field_of(
         s,
         c_answers::site_told(site),
-        kind_of(kind),
-        number_of(kind, number),
+        kind_given(kind),
+        number_given(kind, number),
     );
     c_answers::tell_found(f, out)
 }
@@ -135,8 +135,8 @@ pub extern "C" fn sikalumdo_tally(
     gt: u32,
     out: &mut [u64],
 ) -> u64
-    ensures told { λ r. ⌜ r ≡ talliedAnswer (length (now (out .entry))) (tallied (factsOf strings contigs people gt) (now (s .entry))) ⌝ }
-    ensures written { λ _. ⌜ now (out .exit) ≡ talliedNumbers (now (out .entry)) (tallied (factsOf strings contigs people gt) (now (s .entry))) ⌝ }
+    ensures told { λ r. ⌜ r ≡ talliedAnswer (length (now (out .entry))) (tallied (factsGiven strings contigs people gt) (now (s .entry))) ⌝ }
+    ensures written { λ _. ⌜ now (out .exit) ≡ talliedNumbers (now (out .entry)) (tallied (factsGiven strings contigs people gt) (now (s .entry))) ⌝ }
 {
     let facts = Facts {
         strings,
@@ -158,8 +158,8 @@ pub extern "C" fn sikalumdo_choose(
     choice: &[u32],
     buf: &mut [u8],
 ) -> u64
-    ensures told { λ r. ⌜ r ≡ choosingAnswer (choosing (factsOf strings contigs people gt) (now (choice .entry)) (length (now (buf .entry))) (now (s .entry))) ⌝ }
-    ensures written { λ _. ⌜ now (buf .exit) ≡ afterChoosing (factsOf strings contigs people gt) (now (choice .entry)) (now (buf .entry)) (now (s .entry)) ⌝ }
+    ensures told { λ r. ⌜ r ≡ choosingAnswer (choosing (factsGiven strings contigs people gt) (now (choice .entry)) (length (now (buf .entry))) (now (s .entry))) ⌝ }
+    ensures written { λ _. ⌜ now (buf .exit) ≡ afterChoosing (factsGiven strings contigs people gt) (now (choice .entry)) (now (buf .entry)) (now (s .entry)) ⌝ }
 {
     let facts = Facts {
         strings,
@@ -179,7 +179,7 @@ pub extern "C" fn sikalumdo_first_pair(
     people: u32,
     gt: u32,
 ) -> u64
-    ensures { λ r. ⌜ r ≡ openingAnswer (opened (factsOf strings contigs people gt) (now (s .entry))) ⌝ }
+    ensures { λ r. ⌜ r ≡ openingAnswer (opened (factsGiven strings contigs people gt) (now (s .entry))) ⌝ }
 {
     let facts = Facts {
         strings,
@@ -222,9 +222,9 @@ pub extern "C" fn sikalumdo_begin(
     rlen: i32,
     qual: u32,
 ) -> u64
-    ensures told { λ r. ⌜ r ≡ turnAnswer (begun (stateOf (now (state .entry))) (length (now (buf .entry))) (factsOf strings contigs people gt) (ofZ w32 chrom) (ofZ w32 pos) (ofZ w32 rlen) qual) ⌝ }
-    ensures kept { λ _. ⌜ now (state .exit) ≡ turnNumbers (now (state .entry)) (begun (stateOf (now (state .entry))) (length (now (buf .entry))) (factsOf strings contigs people gt) (ofZ w32 chrom) (ofZ w32 pos) (ofZ w32 rlen) qual) ⌝ }
-    ensures written { λ _. ⌜ now (buf .exit) ≡ afterBegin (stateOf (now (state .entry))) (now (buf .entry)) (factsOf strings contigs people gt) (ofZ w32 chrom) (ofZ w32 pos) (ofZ w32 rlen) qual ⌝ }
+    ensures told { λ r. ⌜ r ≡ turnAnswer (begun (stateOf (now (state .entry))) (length (now (buf .entry))) (factsGiven strings contigs people gt) (ofZ w32 chrom) (ofZ w32 pos) (ofZ w32 rlen) qual) ⌝ }
+    ensures kept { λ _. ⌜ now (state .exit) ≡ turnNumbers (now (state .entry)) (begun (stateOf (now (state .entry))) (length (now (buf .entry))) (factsGiven strings contigs people gt) (ofZ w32 chrom) (ofZ w32 pos) (ofZ w32 rlen) qual) ⌝ }
+    ensures written { λ _. ⌜ now (buf .exit) ≡ afterBegin (stateOf (now (state .entry))) (now (buf .entry)) (factsGiven strings contigs people gt) (ofZ w32 chrom) (ofZ w32 pos) (ofZ w32 rlen) qual ⌝ }
 {
     let facts = Facts {
         strings,

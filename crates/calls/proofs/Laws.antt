@@ -10,7 +10,7 @@ use lib.Dec.{eqb}
 use lib.ListN.{drop, length, length-append}
 use lib.Seq.{drop-drop}
 use borrow.Author.Tests.{eqb-true, eqb-false}
-use Rattle.calls.specs.Calls.{slots, alleleOf, alleles, people, called, noSlot, without, howMany, counters, AtMost, tally}
+use Rattle.calls.specs.Calls.{slots, alleleOf, alleles, people, called, noSlot, without, howMany, counters, AtMost, peopleTally}
 use Rattle.calls.specs.Totals.{total, slotCount, someSlot, withSlots, sums, together}
 use Rattle.calls.proofs.Counters.{howMany-append, howMany-hit, howMany-miss}
 
@@ -60,9 +60,9 @@ slots-called t (p ∷ ps) = rw (length-append, slots-called t ps) (omega (arith,
     mapped (x ∷ xs) = rw (mapped xs)
 
 -- missing and called together are the slots that aren't ends of vector
-pub tally-slots : (t : ℕ) (ps : List (List ℕ)) → AtMost 64 (called t ps) → total (tally t ps .counts) ≡ slotCount t ps
-unfolding tally
-tally-slots t ps b = missing-and-called (called t ps) b ∙ slots-called t ps
+pub people-tally-slots : (t : ℕ) (ps : List (List ℕ)) → AtMost 64 (called t ps) → total (peopleTally t ps .counts) ≡ slotCount t ps
+unfolding peopleTally
+people-tally-slots t ps b = missing-and-called (called t ps) b ∙ slots-called t ps
 
 -- people are those with a slot and those without
 pub with-and-without : (t : ℕ) (ps : List (List ℕ)) → withSlots t ps + without t ps ≡ length ps
@@ -105,6 +105,6 @@ counters-append zero k xs ys = refl
 counters-append (suc n) k xs ys = rw (howMany-append k xs ys, counters-append n (suc k) xs ys)
 
 -- the tallies of two groups of people add up
-pub tally-append : (t : ℕ) (ps qs : List (List ℕ)) → tally t (ps ++ qs) ≡ together (tally t ps) (tally t qs)
-unfolding tally together
-tally-append t ps qs = rw (without-append t ps qs, called-append t ps qs, counters-append 65 0 (called t ps) (called t qs))
+pub people-tally-append : (t : ℕ) (ps qs : List (List ℕ)) → peopleTally t (ps ++ qs) ≡ together (peopleTally t ps) (peopleTally t qs)
+unfolding peopleTally together
+people-tally-append t ps qs = rw (without-append t ps qs, called-append t ps qs, counters-append 65 0 (called t ps) (called t qs))

@@ -13,16 +13,16 @@ use Rattle.types.specs.Elements.{kind}
 use Rattle.types.specs.declared.Element.{Element}
 use Rattle.types.specs.declared.Element.the-variants.{Plain, Missing, End, Reserved}
 use Rattle.vectors.specs.Sound.{codeMost}
-use Rattle.vectors.specs.Vectors.{numbers, turned, follow, vector, andThen, vectors, judged}
+use Rattle.vectors.specs.Vectors.{numbers, elementTurn, follow, vector, andThen, vectors, judged}
 use Rattle.values.specs.declared.Refusal.{Refusal}
 use Rattle.vectors.specs.declared.Judged.{Judged}
 use Rattle.vectors.specs.declared.Judged.the-variants.{Sound, Refused as Unsound}
 use Rattle.vectors.proofs.Codes.{code-sound}
-use Rattle.calls.specs.Calls.{slots, alleles, people, called, without, AtMost, tally, peopleOf, counted}
+use Rattle.calls.specs.Calls.{slots, alleles, people, called, without, AtMost, peopleTally, peopleOf, counted}
 use Rattle.calls.specs.Sweep.{slotted}
 use Rattle.calls.specs.Totals.{total, slotCount, withSlots}
 use Rattle.calls.proofs.Turns.{calls, alleles-cons}
-use Rattle.calls.proofs.Laws.{tally-slots, with-and-without, length-people}
+use Rattle.calls.proofs.Laws.{people-tally-slots, with-and-without, length-people}
 
 -- a bound of a list is one of its first number and of the rest, and of two lists one after the other
 at-most-cons : (m x : ℕ) (xs : List ℕ) → x ≤ m → AtMost m xs → AtMost m (x ∷ xs)
@@ -51,7 +51,7 @@ vector-alleles most t w m at e (x ∷ xs) h s =
     Rest : Type 0
     Rest = (b : Bool) → vector most t w (at + w) b xs ≡ Sound → AtMost m (alleles t xs)
 
-    by-kind : (k : Element) (b : Bool) → follow at (turned most b k x) (λ b. vector most t w (at + w) b xs) ≡ Sound → Rest
+    by-kind : (k : Element) (b : Bool) → follow at (elementTurn most b k x) (λ b. vector most t w (at + w) b xs) ≡ Sound → Rest
         → AtMost m (calls (slotted k x) (alleles t xs))
     by-kind End b r on = λ j. omega arith
     by-kind Reserved b r on = refused _ r
@@ -81,9 +81,9 @@ pub sound-slots : (count t len : ℕ) (l : List ℕ) → count ≤ 64 → judged
 unfolding judged counted peopleOf
 sound-slots count t len l h s =
     let c = code-sound count t (codeMost count t) (omega arith) .1 in
-    tally-slots t (peopleOf t len l) (people-alleles (codeMost count t) t (widthOf t) len 64 _ 0 l (omega arith) s)
+    people-tally-slots t (peopleOf t len l) (people-alleles (codeMost count t) t (widthOf t) len 64 _ 0 l (omega arith) s)
 
 -- people are those with a slot and those without
 pub counted-people : (t len : ℕ) (l : List ℕ) → withSlots t (peopleOf t len l) + counted t len l .without ≡ length l / widthOf t / len
-unfolding counted tally peopleOf
+unfolding counted peopleTally peopleOf
 counted-people t len l = with-and-without t (peopleOf t len l) ∙ length-people (widthOf t) len _ l

@@ -12,7 +12,7 @@ use Rattle.types.specs.Elements.{kind}
 use Rattle.types.specs.declared.Element.{Element}
 use Rattle.types.specs.declared.Element.the-variants.{Plain, Missing, End, Reserved}
 use Rattle.vectors.specs.Vectors.{numbers}
-use Rattle.calls.specs.Calls.{before, slots, alleleOf, alleles, people, called, without, noSlot, tally}
+use Rattle.calls.specs.Calls.{before, slots, alleleOf, alleles, people, called, without, noSlot, peopleTally}
 use Rattle.calls.specs.Sweep.{slotted, raised}
 use Rattle.calls.specs.declared.Calls.{Calls}
 use Rattle.calls.specs.declared.Slot.{Slot}
@@ -63,8 +63,8 @@ alleles-turn s t w (suc n) at h = rw (sub-one, ← drop-drop w at s) (alleles-co
 abbrev pub onward : ℕ → List ℕ → ℕ → List (List ℕ) → Calls
 onward so cs t ps = record { without = so + without t ps; counts = raised 0 cs (called t ps) }
 
-pub onward-start : (t : ℕ) (ps : List (List ℕ)) → tally t ps ≡ onward 0 (replicate 65 0) t ps
-unfolding tally
+pub onward-start : (t : ℕ) (ps : List (List ℕ)) → peopleTally t ps ≡ onward 0 (replicate 65 0) t ps
+unfolding peopleTally
 onward-start t ps = rw (zero-add, raised-zeros 65 0 (called t ps))
 
 pub onward-block : (s : List ℕ) (so : ℕ) (cs : List ℕ) (t w len n k at : ℕ) → k ≤ n

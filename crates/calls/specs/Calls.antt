@@ -24,14 +24,14 @@ slots t [] = []
 slots t (x ∷ xs) = before (kind t x) x (slots t xs)
 
 -- the allele of an element, counted from 1; 0 is a missing one
-abbrev pub allele : Element → ℕ → ℕ
-allele Missing x = 0
-allele Plain x = x / 2
-allele End x = x / 2
-allele Reserved x = x / 2
+abbrev pub alleleBy : Element → ℕ → ℕ
+alleleBy Missing x = 0
+alleleBy Plain x = x / 2
+alleleBy End x = x / 2
+alleleBy Reserved x = x / 2
 
 unfoldable pub alleleOf : ℕ → ℕ → ℕ
-alleleOf t x = allele (kind t x) x
+alleleOf t x = alleleBy (kind t x) x
 
 -- the alleles of a person's slots
 unfoldable pub alleles : ℕ → List ℕ → List ℕ
@@ -72,8 +72,8 @@ abbrev pub AtMost : ℕ → List ℕ → Type 0
 AtMost m cs = (j : ℕ) → getD cs j 0 ≤ m
 
 -- the tally of people: those without a slot, missing alleles, and the calls of the first 64 alleles
-unfoldable pub tally : ℕ → List (List ℕ) → Calls
-tally t ps = record { without = without t ps; counts = counters 65 0 (called t ps) }
+unfoldable pub peopleTally : ℕ → List (List ℕ) → Calls
+peopleTally t ps = record { without = without t ps; counts = counters 65 0 (called t ps) }
 
 -- the people of a part that is vectors of type t, one of len elements for each: as many as the part has whole
 unfoldable pub peopleOf : ℕ → ℕ → List ℕ → List (List ℕ)
@@ -81,4 +81,4 @@ peopleOf t len l = people (widthOf t) len (length l / widthOf t / len) l
 
 -- the tally of a part
 unfoldable pub counted : ℕ → ℕ → List ℕ → Calls
-counted t len l = tally t (peopleOf t len l)
+counted t len l = peopleTally t (peopleOf t len l)

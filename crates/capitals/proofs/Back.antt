@@ -10,7 +10,7 @@ use lib.Dec.{ltb}
 use lib.ListN.{length, getD}
 use borrow.Author.Tests.{le-leb, lt-leb, ltb-true, ltb-false}
 use Rattle.words.specs.Pick.{pick}
-use Rattle.hexadecimal.specs.Hexadecimal.{digit, digits, byte, paired, big, frameOf}
+use Rattle.hexadecimal.specs.Hexadecimal.{digit, digits, byte, lineBytes, big, frameOf}
 use Rattle.hexadecimal.proofs.Frames.{frame-good}
 use Rattle.capitals.specs.Capitals.{capital, capitals, highFirst, eight}
 use Rattle.capitals.proofs.Turns.{length-capitals}
@@ -44,22 +44,22 @@ digits-capitals (b ∷ bs) h =
     let lo : b % 16 < 16 = omega arith in
     rw (digit-capital (b / 16) hi, digit-capital (b % 16) lo, lt-leb 16 (b / 16) hi, lt-leb 16 (b % 16) lo) (digits-capitals bs (rest b bs h))
 
-paired-capitals : (bs : List ℕ) → Bytes bs → paired (capitals bs) ≡ bs
-unfolding paired capitals byte
-paired-capitals [] h = refl
-paired-capitals (b ∷ bs) h =
+line-bytes-capitals : (bs : List ℕ) → Bytes bs → lineBytes (capitals bs) ≡ bs
+unfolding lineBytes capitals byte
+line-bytes-capitals [] h = refl
+line-bytes-capitals (b ∷ bs) h =
     let q : b < 256 = h 0 (omega arith) in
     let hi : b / 16 < 16 = omega arith in
     let lo : b % 16 < 16 = omega arith in
     let e : b / 16 * 16 + b % 16 ≡ b = omega arith in
-    rw (digit-capital (b / 16) hi, digit-capital (b % 16) lo, e, paired-capitals bs (rest b bs h))
+    rw (digit-capital (b / 16) hi, digit-capital (b % 16) lo, e, line-bytes-capitals bs (rest b bs h))
 
 -- the line of at most 30,000 bytes gives those bytes
 pub reads-back : (bs : List ℕ) → length bs ≤ 30000 → Bytes bs → frameOf (capitals bs) ≡ some bs
 reads-back bs l h =
     let n = length-capitals bs in
     let g = frame-good (capitals bs) (omega arith) (λ o. omega arith) (digits-capitals bs h) in
-    rw (paired-capitals bs h) at g
+    rw (line-bytes-capitals bs h) at g
 
 -- the four bytes of a number are bytes
 next : (b : ℕ) (bs : List ℕ) → b < 256 → Bytes bs → Bytes (b ∷ bs)

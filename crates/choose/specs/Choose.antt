@@ -17,24 +17,24 @@ use Rattle.choose.specs.declared.Choosing.{Choosing}
 use Rattle.choose.specs.declared.Choosing.the-variants.{Chosen, Refused}
 
 -- a record that would be written into so much room: its length, or 13
-abbrev pub written : ℕ → List ℕ → Choosing
-written room r = pick (ltb room (length r)) (Refused (refusal 13 0)) (Chosen (length r))
+abbrev pub chosenLength : ℕ → List ℕ → Choosing
+chosenLength room r = pick (ltb room (length r)) (Refused (refusal 13 0)) (Chosen (length r))
 
 abbrev pub answerOf : List ℕ → ℕ → List ℕ → Reading → Choosing
 answerOf cs room s (Unread r) = Refused r
-answerOf cs room s (Accepted t g) = pick (ascending (t .people) cs) (written room (chosenRecord t cs s)) (Refused (refusal 14 0))
+answerOf cs room s (Accepted t g) = pick (ascending (t .people) cs) (chosenLength room (chosenRecord t cs s)) (Refused (refusal 14 0))
 
 -- the answer: the chosen length, or the refusal
 unfoldable pub choosing : Facts → List ℕ → ℕ → List ℕ → Choosing
 choosing f cs room s = answerOf cs room s (reading f s)
 
 -- the buffer: the chosen record from its start on, its other bytes as they were; on a refusal every byte as it was
-abbrev pub stored : List ℕ → List ℕ → List ℕ
-stored buf r = pick (ltb (length buf) (length r)) buf (sets buf 0 r)
+abbrev pub chosenBuffer : List ℕ → List ℕ → List ℕ
+chosenBuffer buf r = pick (ltb (length buf) (length r)) buf (sets buf 0 r)
 
 abbrev pub bufferOf : List ℕ → List ℕ → List ℕ → Reading → List ℕ
 bufferOf cs buf s (Unread r) = buf
-bufferOf cs buf s (Accepted t g) = pick (ascending (t .people) cs) (stored buf (chosenRecord t cs s)) buf
+bufferOf cs buf s (Accepted t g) = pick (ascending (t .people) cs) (chosenBuffer buf (chosenRecord t cs s)) buf
 
 unfoldable pub afterChoosing : Facts → List ℕ → List ℕ → List ℕ → List ℕ
 afterChoosing f cs buf s = bufferOf cs buf s (reading f s)

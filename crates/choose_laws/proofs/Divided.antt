@@ -12,7 +12,7 @@ use lib.Seq.{drop-drop, take-at, drop-at, length-take-le}
 use borrow.Author.Tests.{eqb-true, eqb-false, eq-eqb, ne-eqb, le-ltb}
 use Rattle.words.specs.Lists.{among}
 use Rattle.vectors.specs.Vectors.{numbers}
-use Rattle.calls.specs.Calls.{slots, alleles, people, called, noSlot, without, howMany, counters, tally, peopleOf, counted}
+use Rattle.calls.specs.Calls.{slots, alleles, people, called, noSlot, without, howMany, counters, peopleTally, peopleOf, counted}
 use Rattle.calls.specs.Totals.{sums, together}
 use Rattle.calls.proofs.Counters.{howMany-append, raised-none, raised-zeros}
 use Rattle.genotypes.specs.declared.Gt.{Gt}
@@ -173,10 +173,10 @@ unfolding counters sums
 counters-sums zero k xs ys zs h = refl
 counters-sums (suc n) k xs ys zs h = rw (h k, counters-sums n (suc k) xs ys zs h)
 
-tally-map : (t n : ℕ) (g : ℕ → List ℕ) (cs ds : List ℕ) → Division n cs ds
-    → tally t (map g (everybody n)) ≡ together (tally t (map g cs)) (tally t (map g ds))
-unfolding tally together
-tally-map t n g cs ds d =
+people-tally-map : (t n : ℕ) (g : ℕ → List ℕ) (cs ds : List ℕ) → Division n cs ds
+    → peopleTally t (map g (everybody n)) ≡ together (peopleTally t (map g cs)) (peopleTally t (map g ds))
+unfolding peopleTally together
+people-tally-map t n g cs ds d =
     let e : without t (map g (everybody n)) ≡ without t (map g cs) + without t (map g ds) =
     rw (without-map t g (everybody n), without-map t g cs, without-map t g ds) (over-division _ n cs ds d) in
     rw (
@@ -186,13 +186,13 @@ tally-map t n g cs ds d =
     )
 
 -- the tallies of the two choices' parts add up to everybody's
-pub tally-divided : (t w len n : ℕ) (cs ds l : List ℕ) → Division n cs ds → n * (len * w) ≤ length l
-    → tally t (people w len n l)
-    ≡ together (tally t (people w len (length cs) (chosenParts (len * w) cs l)))
-    (tally t (people w len (length ds) (chosenParts (len * w) ds l)))
-tally-divided t w len n cs ds l d r =
+pub people-tally-divided : (t w len n : ℕ) (cs ds l : List ℕ) → Division n cs ds → n * (len * w) ≤ length l
+    → peopleTally t (people w len n l)
+    ≡ together (peopleTally t (people w len (length cs) (chosenParts (len * w) cs l)))
+    (peopleTally t (people w len (length ds) (chosenParts (len * w) ds l)))
+people-tally-divided t w len n cs ds l d r =
     let e : people w len n l ≡ map (person w len l) (everybody n) = rw (zero-mul (len * w)) at (people-from w len 0 n l) in
-    rw (e, people-chosen w len 0 n cs l (d .first) r, people-chosen w len 0 n ds l (d .second) r) (tally-map t n (person w len l) cs ds d)
+    rw (e, people-chosen w len 0 n cs l (d .first) r, people-chosen w len 0 n ds l (d .second) r) (people-tally-map t n (person w len l) cs ds d)
 
 -- the bytes of GT's elements of so many people
 abbrev pub gtBytes : Gt → ℕ → List ℕ → List ℕ
@@ -207,17 +207,17 @@ pub data Part (g : Gt) (n : ℕ) (s cs : List ℕ) (g′ : Gt) (s′ : List ℕ)
 
 -- the tally of a part that has just its people's elements; where these have no width, there are none
 counted-people : (t len n : ℕ) (l : List ℕ) → 0 < len → 0 < widthOf t → length l ≡ n * len * widthOf t
-    → counted t len l ≡ tally t (people (widthOf t) len n l)
+    → counted t len l ≡ peopleTally t (people (widthOf t) len n l)
 unfolding counted peopleOf
 counted-people t len n l p q e = rw (e, mul-div-cancel (n * len) q, mul-div-cancel n p)
 
-tally-nobody : (t : ℕ) → tally t [] ≡ nobody 0
-unfolding tally without called
-tally-nobody t = rw (sym (raised-zeros 65 0 []), raised-none 0 (replicate 65 0))
+people-tally-nobody : (t : ℕ) → peopleTally t [] ≡ nobody 0
+unfolding peopleTally without called
+people-tally-nobody t = rw (sym (raised-zeros 65 0 []), raised-none 0 (replicate 65 0))
 
 counted-none : (t len : ℕ) (l : List ℕ) → widthOf t ≡ 0 → counted t len l ≡ nobody 0
 unfolding counted peopleOf people
-counted-none t len l e = rw (e, div-zero (length l), zero-div len) (tally-nobody t)
+counted-none t len l e = rw (e, div-zero (length l), zero-div len) (people-tally-nobody t)
 
 nobody-together : (a b : ℕ) → together (nobody a) (nobody b) ≡ nobody (a + b)
 unfolding together sums
@@ -237,14 +237,14 @@ part-narrow g n s cs g′ s′ (none c k) p e = rw (callsOf-none g′ (length cs
 part-calls : (g : Gt) (n : ℕ) (s cs : List ℕ) (g′ : Gt) (s′ : List ℕ) → Part g n s cs g′ s′ → 0 < g .len → 0 < widthOf (g .code)
     → n * (g .len * widthOf (g .code)) ≤ length (gtBytes g n s) → ascending n cs ≡ true
     → callsOf g′ (length cs) s′
-    ≡ tally (g .code) (people (widthOf (g .code)) (g .len) (length cs) (chosenParts (g .len * widthOf (g .code)) cs (gtBytes g n s)))
+    ≡ peopleTally (g .code) (people (widthOf (g .code)) (g .len) (length cs) (chosenParts (g .len * widthOf (g .code)) cs (gtBytes g n s)))
 unfolding people
 part-calls g n s cs g′ s′ (kept c k i b) p q r a =
     let w = widthOf (g .code) in
     let e : length (chosenParts (g .len * w) cs (gtBytes g n s)) ≡ length cs * g .len * w =
     length-chosenParts (g .len * w) 0 n cs (gtBytes g n s) a r ∙ sym (mul-assoc (length cs) (g .len) w) in
     callsOf-part g′ (length cs) s′ (λ z. omega arith) ∙ rw (b, c, k) (counted-people (g .code) (g .len) (length cs) _ p q e)
-part-calls g n s cs g′ s′ (none c k) p q r a = rw (callsOf-none g′ (length cs) s′ k, c) (sym (tally-nobody (g .code)))
+part-calls g n s cs g′ s′ (none c k) p q r a = rw (callsOf-none g′ (length cs) s′ k, c) (sym (people-tally-nobody (g .code)))
 
 -- everybody's elements are there
 length-gtBytes : (g : Gt) (n : ℕ) (s : List ℕ) → g .first + n * g .len * widthOf (g .code) ≤ length s
@@ -294,7 +294,7 @@ callsOf-divided g n s cs ds g₁ s₁ g₂ s₂ d p q = by-size (g .len) (widthO
           part-calls g n s cs g₁ s₁ p i j r (d .first),
           part-calls g n s ds g₂ s₂ q i j r (d .second),
         )
-        (tally-divided (g .code) (widthOf (g .code)) (g .len) n cs ds (gtBytes g n s) d r)
+        (people-tally-divided (g .code) (widthOf (g .code)) (g .len) n cs ds (gtBytes g n s) d r)
 
 -- the tally of an accepted record with at most 64 alleles
 pub tallied-accepted : (f : Facts) (s : List ℕ) (t : Site) (g : Gt) → reading f s ≡ Accepted t g → t .alleles ≤ 64

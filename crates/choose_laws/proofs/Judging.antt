@@ -12,7 +12,7 @@ use Rattle.types.specs.Rows.{widthOf}
 use Rattle.types.specs.Elements.{kind}
 use Rattle.types.specs.declared.Element.{Element}
 use Rattle.types.specs.declared.Element.the-variants.{Plain, Missing, End, Reserved}
-use Rattle.vectors.specs.Vectors.{numbers, turned, follow, vector, andThen, vectors, judged}
+use Rattle.vectors.specs.Vectors.{numbers, elementTurn, follow, vector, andThen, vectors, judged}
 use Rattle.vectors.specs.declared.Judged.{Judged}
 use Rattle.vectors.specs.declared.Judged.the-variants.{Sound, Refused as Unsound}
 use Rattle.fetch_laws.proofs.Bytes.{part-of}
@@ -30,8 +30,8 @@ vector-anywhere most t w at at′ e (x ∷ xs) h =
     Rest : Type 0
     Rest = (b : Bool) → vector most t w (at + w) b xs ≡ Sound → vector most t w (at′ + w) b xs ≡ Sound
 
-    by-kind : (k : Element) (b : Bool) → follow at (turned most b k x) (λ b. vector most t w (at + w) b xs) ≡ Sound → Rest
-        → follow at′ (turned most b k x) (λ b. vector most t w (at′ + w) b xs) ≡ Sound
+    by-kind : (k : Element) (b : Bool) → follow at (elementTurn most b k x) (λ b. vector most t w (at + w) b xs) ≡ Sound → Rest
+        → follow at′ (elementTurn most b k x) (λ b. vector most t w (at′ + w) b xs) ≡ Sound
     by-kind End b s on = on true s
     by-kind Reserved b s on = cc
     by-kind Missing true s on = cc
@@ -40,7 +40,7 @@ vector-anywhere most t w at at′ e (x ∷ xs) h =
     by-kind Plain false s on = by-most (ltb most x) refl
       where
         by-most : (q : Bool) → ltb most x ≡ q
-            → follow at′ (turned most false Plain x) (λ b. vector most t w (at′ + w) b xs) ≡ Sound
+            → follow at′ (elementTurn most false Plain x) (λ b. vector most t w (at′ + w) b xs) ≡ Sound
         by-most true g = let z = rw g at s in cc
         by-most false g = rw g (on false (rw g at s))
 

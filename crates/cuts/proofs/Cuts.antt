@@ -28,7 +28,7 @@ use Rattle.record.specs.declared.Reading.{Reading}
 use Rattle.record.specs.declared.Reading.the-variants.{Accepted, Refused as Unread}
 use Rattle.choice.specs.Choice.{ascending}
 use Rattle.choose.specs.Chosen.{chosenRecord}
-use Rattle.choose.specs.Choose.{written, answerOf, choosing, stored, bufferOf, afterChoosing}
+use Rattle.choose.specs.Choose.{chosenLength, answerOf, choosing, chosenBuffer, bufferOf, afterChoosing}
 use Rattle.choose.specs.declared.Choosing.the-variants.{Chosen, Refused}
 use Rattle.frames.specs.Text.{noLine, badLine}
 use Rattle.frames.specs.Frames.{textRoom, said, saidIn}
@@ -61,9 +61,9 @@ unfolding cutRecord keptRecord choosing afterChoosing
 chosen-said f cs buf bs n w room h = by-reading (reading f bs) refl h
   where
     by-choice : (t : Site) (g : Gt) → reading f bs ≡ Accepted t g → (b : Bool) → ascending (t .people) cs ≡ b
-        → pick b (written (length buf) (chosenRecord t cs bs)) (Refused (refusal 14 0)) ≡ Chosen n
-        → (pick b (recordText (chosenRecord t cs bs)) (noLine (14 ∷ 0 ∷ [])) ≡ recordText (take n (pick b (stored buf (chosenRecord t cs bs)) buf)))
-        × (pick b (sets buf 0 (chosenRecord t cs bs)) buf ≡ pick b (stored buf (chosenRecord t cs bs)) buf)
+        → pick b (chosenLength (length buf) (chosenRecord t cs bs)) (Refused (refusal 14 0)) ≡ Chosen n
+        → (pick b (recordText (chosenRecord t cs bs)) (noLine (14 ∷ 0 ∷ [])) ≡ recordText (take n (pick b (chosenBuffer buf (chosenRecord t cs bs)) buf)))
+        × (pick b (sets buf 0 (chosenRecord t cs bs)) buf ≡ pick b (chosenBuffer buf (chosenRecord t cs bs)) buf)
         × (n ≤ length bs)
     by-choice t g e false a k = let z : _≡_ {A = ℕ} 0 1 = cc in absurd (omega arith)
     by-choice t g e true a k =
@@ -89,9 +89,9 @@ unfolding cutRecord keptRecord choosing afterChoosing
 refused-said f cs buf bs r w room h = by-reading (reading f bs) refl h
   where
     by-choice : (t : Site) (g : Gt) → reading f bs ≡ Accepted t g → (b : Bool) → ascending (t .people) cs ≡ b
-        → pick b (written (length buf) (chosenRecord t cs bs)) (Refused (refusal 14 0)) ≡ Refused r
+        → pick b (chosenLength (length buf) (chosenRecord t cs bs)) (Refused (refusal 14 0)) ≡ Refused r
         → (pick b (recordText (chosenRecord t cs bs)) (noLine (14 ∷ 0 ∷ [])) ≡ noLine (r .number ∷ r .place ∷ []))
-        × (pick b (sets buf 0 (chosenRecord t cs bs)) buf ≡ pick b (stored buf (chosenRecord t cs bs)) buf)
+        × (pick b (sets buf 0 (chosenRecord t cs bs)) buf ≡ pick b (chosenBuffer buf (chosenRecord t cs bs)) buf)
     by-choice t g e false a k = let m : refusal 14 0 ≡ r = cc in (rw (← m), refl)
     by-choice t g e true a k =
         let i = accepted-inside f bs t g e in

@@ -9,9 +9,9 @@ use lib.Dec.{ltb, eqb}
 use lib.ListN.{length}
 use borrow.Author.Tests.{le-ltb, ltb-false}
 use Rattle.words.specs.Pick.{pick}
-use Rattle.hexadecimal.specs.Hexadecimal.{digits, paired, frameOf, answered}
+use Rattle.hexadecimal.specs.Hexadecimal.{digits, lineBytes, frameOf, answered}
 use Rattle.hexadecimal.specs.declared.Frame.the-variants.{Bytes, NoRoom}
-use Rattle.hexadecimal.proofs.Digits.{length-paired}
+use Rattle.hexadecimal.proofs.Digits.{length-line-bytes}
 use Rattle.cuts.specs.Cuts.{recordRoom, lineRoom, roomy}
 
 pub rooms : (frame chosen out : List ℕ) → roomy frame chosen out ≡ true
@@ -31,21 +31,21 @@ pub frame-most : (l bs : List ℕ) → frameOf l ≡ some bs → length bs ≤ r
 unfolding frameOf
 frame-most l bs h = by-long (ltb 60000 (length l)) refl h
   where
-    by-digits : (d : Bool) → pick d (some (paired l)) none ≡ some bs → paired l ≡ bs
+    by-digits : (d : Bool) → pick d (some (lineBytes l)) none ≡ some bs → lineBytes l ≡ bs
     by-digits true e = cc
     by-digits false e = cc
 
-    by-odd : (o : Bool) → pick o none (pick (digits l) (some (paired l)) none) ≡ some bs → paired l ≡ bs
+    by-odd : (o : Bool) → pick o none (pick (digits l) (some (lineBytes l)) none) ≡ some bs → lineBytes l ≡ bs
     by-odd true e = cc
     by-odd false e = by-digits (digits l) e
 
     by-long : (b : Bool) → ltb 60000 (length l) ≡ b
-        → pick b none (pick (eqb (length l % 2) 1) none (pick (digits l) (some (paired l)) none)) ≡ some bs
+        → pick b none (pick (eqb (length l % 2) 1) none (pick (digits l) (some (lineBytes l)) none)) ≡ some bs
         → length bs ≤ recordRoom
     by-long true k e = let z : _≡_ {A = ℕ} 0 1 = cc in absurd (omega arith)
     by-long false k e =
         let q = ap length (by-odd (eqb (length l % 2) 1) e) in
-        omega (arith, q, length-paired l, ltb-false 60000 (length l) k)
+        omega (arith, q, length-line-bytes l, ltb-false 60000 (length l) k)
 
 -- a buffer of 30,000 bytes is never too short
 pub frame-room : (room : ℕ) (l : List ℕ) → recordRoom ≤ room → answered room (frameOf l) ≡ NoRoom → ⊥

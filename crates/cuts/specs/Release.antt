@@ -15,8 +15,8 @@ unfoldable pub releaseLine : Facts → ℕ → List ℕ
 releaseLine f people = eight (f .strings) ++ (eight (f .contigs) ++ (eight people ++ (eight (f .gt) ++ (0x0A ∷ []))))
 
 -- what is answered, and the buffer afterwards: the line at its start, where it has room
-unfoldable pub released : ℕ → Facts → ℕ → Answer
-released room f people = pick (ltb room 33) NoRoom (Text (length (releaseLine f people)))
+unfoldable pub releaseSaid : ℕ → Facts → ℕ → Answer
+releaseSaid room f people = pick (ltb room 33) NoRoom (Text (length (releaseLine f people)))
 
-unfoldable pub releasedIn : List ℕ → Facts → ℕ → List ℕ
-releasedIn out f people = pick (ltb (length out) 33) out (sets out 0 (releaseLine f people))
+unfoldable pub releaseSaidIn : List ℕ → Facts → ℕ → List ℕ
+releaseSaidIn out f people = pick (ltb (length out) 33) out (sets out 0 (releaseLine f people))

@@ -8,7 +8,7 @@ ghost use Rattle.frames.specs.Frames.{textInside};
 ghost use Rattle.frames.specs.declared.Answer.the-variants.{Text};
 ghost use Rattle.cuts.specs.Cuts.{recordText, cutRecord, keptRecord, roomy, recordRoom, lineRoom, cut, cutOut, cutFrom, cutKept};
 ghost use Rattle.cuts.specs.Followed.{followed};
-ghost use Rattle.cuts.specs.Release.{released, releasedIn};
+ghost use Rattle.cuts.specs.Release.{releaseSaid, releaseSaidIn};
 use choose::Choosing;
 use fixed::Blocks;
 use fixed::Facts;
@@ -113,9 +113,9 @@ pub fn cut_line(
 
 // The first line of the release, at the start of `out`: the header's facts with the people that were chosen; or no room, and nothing written.
 pub fn release_line(facts: Facts, people: u32, out: &mut [u8]) -> Answer
-    ensures told { λ r. ⌜ r ≡ released (length (now (out .entry))) facts people ⌝ }
+    ensures told { λ r. ⌜ r ≡ releaseSaid (length (now (out .entry))) facts people ⌝ }
     ensures inside { λ r. ⌜ textInside (length (now (out .entry))) r ⌝ }
-    ensures written { λ _. ⌜ now (out .exit) ≡ releasedIn (now (out .entry)) facts people ⌝ }
+    ensures written { λ _. ⌜ now (out .exit) ≡ releaseSaidIn (now (out .entry)) facts people ⌝ }
 {
     if out.len() < 33 {
         return Answer::NoRoom;

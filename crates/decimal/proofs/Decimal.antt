@@ -10,7 +10,7 @@ use lib.Dec.{ltb, lit<}
 use lib.ListN.{length, getD, length-append, List·getD-append}
 use borrow.Author.Tests.{lt-ltb, le-ltb, ltb-true, ltb-false}
 use Rattle.words.specs.Pick.{pick}
-use Rattle.decimal.specs.Decimal.{figure, written, decimal, value}
+use Rattle.decimal.specs.Decimal.{figure, inDecimal, decimal, value}
 
 -- two choices by one test, where what they choose when it fails is the same
 otherwise : {A : Type 0} (b : Bool) (x y z : A) → (b ≡ false → y ≡ z) → pick b x y ≡ pick b x z
@@ -18,8 +18,8 @@ otherwise true x y z h = refl
 otherwise false x y z h = h refl
 
 -- room for n further digits is more than a number n needs
-enough : (k j n : ℕ) → n ≤ k → n ≤ j → written k n ≡ written j n
-unfolding written
+enough : (k j n : ℕ) → n ≤ k → n ≤ j → inDecimal k n ≡ inDecimal j n
+unfolding inDecimal
 enough zero zero n h g = refl
 enough zero (suc j) n h g = let z : n ≡ 0 = omega arith in rw z
 enough (suc k) zero n h g = let z : n ≡ 0 = omega arith in rw z
@@ -28,12 +28,12 @@ enough (suc k) (suc j) n h g =
     (λ e. let q = ltb-false n 10 e in rw (enough k j (n / 10) (omega arith) (omega arith)))
 
 pub below-ten : (n : ℕ) → n < 10 → decimal n ≡ figure n ∷ []
-unfolding decimal written
+unfolding decimal inDecimal
 below-ten zero h = refl
 below-ten (suc n) h = rw (lt-ltb _ _ h)
 
 pub from-ten : (n : ℕ) → 10 ≤ n → decimal n ≡ decimal (n / 10) ++ (figure (n % 10) ∷ [])
-unfolding decimal written
+unfolding decimal inDecimal
 from-ten zero h = absurd (omega arith)
 from-ten (suc n) h = rw (le-ltb _ _ h, enough n (suc n / 10) (suc n / 10) (omega arith) (omega arith))
 

@@ -2,7 +2,7 @@
 use mathlib.Core.Path.{_≡_, refl}
 use mathlib.Core.List.{[], _∷_}
 use lib.ListN.{length}
-use Rattle.decimal.specs.Decimal.{written, decimal, value, placed}
+use Rattle.decimal.specs.Decimal.{inDecimal, decimal, value, placed}
 use Rattle.stores.specs.Stores.{filled}
 use Rattle.decimal.specs.declared.Put.the-variants.{At, NoRoom}
 
@@ -18,7 +18,7 @@ pub record Worked : Type 0 where
   pub kept : filled (7 ∷ 7 ∷ []) 1 (decimal 17) ≡ 7 ∷ 7 ∷ []
 
 pub worked : Worked
-unfolding written decimal value placed filled
+unfolding inDecimal decimal value placed filled
 worked =
     record {
       none = refl;

@@ -12,15 +12,15 @@ abbrev pub figure : ℕ → ℕ
 figure d = 0x30 + d
 
 -- the text of a number: its last digit, after the text of its tenth where that is not 0; k digits may stand before the last
-unfoldable pub written : ℕ → ℕ → List ℕ
-written zero n = figure n ∷ []
-written (suc k) n =
-    let before = written k (n / 10) in
+unfoldable pub inDecimal : ℕ → ℕ → List ℕ
+inDecimal zero n = figure n ∷ []
+inDecimal (suc k) n =
+    let before = inDecimal k (n / 10) in
     pick (ltb n 10) (figure n ∷ []) (before ++ (figure (n % 10) ∷ []))
 
 -- the decimal text of a number, which has at most n digits before its last
 unfoldable pub decimal : ℕ → List ℕ
-decimal n = written n n
+decimal n = inDecimal n n
 
 -- the number that a decimal text says, high digit first
 unfoldable pub value : List ℕ → ℕ

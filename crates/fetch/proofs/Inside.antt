@@ -23,7 +23,7 @@ use Rattle.values.specs.declared.Descriptor.the-variants.{Typed, Refused as NoD
 use Rattle.site.specs.Steps.{then, times}
 use Rattle.site.specs.declared.Step.{Step}
 use Rattle.site.specs.declared.Step.the-variants.{At, Refused as NoStep}
-use Rattle.fetch.specs.Fields.{valueField, afterKey, alone, paired, fieldAt, foundInside}
+use Rattle.fetch.specs.Fields.{valueField, pairField, alone, paired, fieldAt, foundInside}
 use Rattle.fetch.specs.Passing.{fieldStep, passing, past}
 use Rattle.fetch.specs.declared.Found.{Found}
 use Rattle.fetch.specs.declared.Found.the-variants.{Field, Refused}
@@ -87,7 +87,7 @@ unfolding present
 present-inside vectors role at l = elements-inside vectors at (at + length l) (described role at l) (described-inside role at l)
 
 key-inside : (vectors : ℕ) (role : Use) (at : ℕ) (l : List ℕ) (i : Integer) → integerInside at (at + length l) i
-    → foundInside at (at + length l) (afterKey vectors role at l i)
+    → foundInside at (at + length l) (pairField vectors role at l i)
 key-inside vectors role at l (NoInteger r) h = tt
 key-inside vectors role at l (One key next) h =
     let m = drop (next - at) l in

@@ -21,16 +21,16 @@ valueField key (NoValue r) = Refused r
 valueField key (Present t n first stop) = Field key t n first stop
 
 -- a key, and then the value after it
-abbrev pub afterKey : ℕ → Use → ℕ → List ℕ → Integer → Found
-afterKey vectors role at l (NoInteger r) = Refused r
-afterKey vectors role at l (One key next) = valueField key (present vectors role next (drop (next - at) l))
+abbrev pub pairField : ℕ → Use → ℕ → List ℕ → Integer → Found
+pairField vectors role at l (NoInteger r) = Refused r
+pairField vectors role at l (One key next) = valueField key (present vectors role next (drop (next - at) l))
 
 -- a value alone, whose key is said to be 0; a key and its value, for so many vectors
 unfoldable pub alone : Use → ℕ → List ℕ → Found
 alone role at l = valueField 0 (present 1 role at l)
 
 unfoldable pub paired : ℕ → Use → ℕ → List ℕ → Found
-paired vectors role at l = afterKey vectors role at l (integer Key at l)
+paired vectors role at l = pairField vectors role at l (integer Key at l)
 
 -- the field of a kind at the front of a list: INFO and FORMAT values have keys, and FORMAT values a vector for each person
 abbrev pub fieldAt : Kind → ℕ → ℕ → List ℕ → Found
@@ -41,9 +41,9 @@ fieldAt Info people at l = paired 1 InfoUse at l
 fieldAt Format people at l = paired people FormatUse at l
 
 -- the refusal of a key
-abbrev pub keyRefused : Integer → Found
-keyRefused (NoInteger r) = Refused r
-keyRefused (One key next) = Refused (refusal 0 0)
+abbrev pub keyNotFound : Integer → Found
+keyNotFound (NoInteger r) = Refused r
+keyNotFound (One key next) = Refused (refusal 0 0)
 
 -- a field lies after a place and before an end
 abbrev pub foundInside : ℕ → ℕ → Found → Type 0

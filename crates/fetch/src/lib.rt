@@ -5,7 +5,7 @@ ghost use Prim.Native.Nat.{_+_};
 ghost use lib.ListN.{length, take, drop};
 ghost use Rattle.values.specs.Answers.{refusal};
 ghost use Rattle.site.specs.Steps.{stepInside};
-ghost use Rattle.fetch.specs.Fields.{valueField, keyRefused, alone, paired, fieldAt, foundInside};
+ghost use Rattle.fetch.specs.Fields.{valueField, keyNotFound, alone, paired, fieldAt, foundInside};
 ghost use Rattle.fetch.specs.Passing.{stepRefused, fieldStep, past, toFilter, toInfo, toFirst, toField, fieldIn, isFormat, countOf, orNone};
 ghost use Rattle.fetch.specs.Fetch.{fieldOf, found, partOf, startOf, fetched, fetchedAt};
 ghost use Rattle.fetch.specs.declared.Found.the-variants.{Refused as NoField};
@@ -62,8 +62,8 @@ fn value_field(key: u32, v: Value) -> Found
 }
 
 // The refusal of a key.
-fn key_refused(k: Integer) -> Found
-    ensures { λ r. ⌜ r ≡ keyRefused k ⌝ }
+fn key_not_found(k: Integer) -> Found
+    ensures { λ r. ⌜ r ≡ keyNotFound k ⌝ }
 {
     match k {
         Integer::One { bits: _, next: _ } => Found::Refused(Refusal {
@@ -118,7 +118,7 @@ fn key_and_value(block: &[u8], at: usize, role: Use, vectors: u32) -> Found
 {
     let k = values::integer_at(block, at, Use::Key);
     let Integer::One { bits, next } = k else {
-        return key_refused(k);
+        return key_not_found(k);
     };
     value_field(bits, values::value_at(block, next, role, vectors))
 }

@@ -27,7 +27,7 @@ use Rattle.site.specs.Filters.{filter, filterValue, filtered}
 use Rattle.site.specs.Site.{info, infoValue}
 use Rattle.site.specs.declared.Step.{Step}
 use Rattle.site.specs.declared.Step.the-variants.{At, Refused as NoStep}
-use Rattle.fetch.specs.Fields.{valueField, afterKey, alone, paired}
+use Rattle.fetch.specs.Fields.{valueField, pairField, alone, paired}
 use Rattle.fetch.specs.Passing.{fieldStep, passing}
 use Rattle.fetch.specs.declared.Kind.the-variants.{Id, Allele, Filter, Info}
 
@@ -109,7 +109,7 @@ filter-passed strings people at l q h =
     value-passed 0 (present 1 FilterUse at l) ∙ filter-value strings at l (present 1 FilterUse at l) h
 
 info-value : (strings at : ℕ) (l : List ℕ) (i : Integer) {q : ℕ} → infoValue at l (inDictionary strings at i) ≡ At q
-    → fieldStep (afterKey 1 InfoUse at l i) ≡ At q
+    → fieldStep (pairField 1 InfoUse at l i) ≡ At q
 info-value strings at l (NoInteger r) h = h
 info-value strings at l (One key next) h = by-key (outside strings key) h
   where

@@ -27,7 +27,7 @@ use Rattle.site.specs.declared.Step.the-variants.{At}
 use Rattle.genotypes.specs.Formats.{formats, afterKey, afterValue, noGenotypes, roleOf, gtNow, gtAt, Rest}
 use Rattle.genotypes.specs.declared.Gt.{Gt}
 use Rattle.genotypes.specs.declared.Genotypes.the-variants.{Sound}
-use Rattle.fetch.specs.Fields.{valueField, afterKey as keyThen, paired}
+use Rattle.fetch.specs.Fields.{valueField, pairField, paired}
 use Rattle.fetch.specs.Passing.{fieldStep, passing}
 use Rattle.fetch.specs.declared.Found.the-variants.{Field}
 use Rattle.fetch.specs.declared.Kind.the-variants.{Format}
@@ -88,7 +88,7 @@ format-there people alleles key gt at l t n first stop h =
 
 -- what reading judged of a FORMAT field is passed to the same place
 format-value : (strings people gt alleles at : ℕ) (l : List ℕ) (i : Integer) {q : ℕ}
-    → formatValue people gt alleles at l (inDictionary strings at i) ≡ At q → fieldStep (keyThen people FormatUse at l i) ≡ At q
+    → formatValue people gt alleles at l (inDictionary strings at i) ≡ At q → fieldStep (pairField people FormatUse at l i) ≡ At q
 format-value strings people gt alleles at l (NoInteger r) h = h
 format-value strings people gt alleles at l (One key next) h = by-key (outside strings key) h
   where

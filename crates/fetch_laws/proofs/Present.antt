@@ -18,7 +18,7 @@ use Rattle.values.specs.declared.Descriptor.{Descriptor}
 use Rattle.values.specs.declared.Descriptor.the-variants.{Typed, Refused as NoDescriptor}
 use Rattle.values.specs.declared.Value.{Value}
 use Rattle.values.specs.declared.Value.the-variants.{Present, Refused as NoValue}
-use Rattle.fetch.specs.Fields.{valueField, afterKey, paired}
+use Rattle.fetch.specs.Fields.{valueField, pairField, paired}
 use Rattle.fetch.specs.declared.Found.the-variants.{Field}
 use Rattle.fetch.proofs.Inside.{integer-inside, present-inside}
 
@@ -71,7 +71,7 @@ paired-keyed vectors role at l key t n first stop h = by-key (integer Key at l) 
         let j : present vectors role next (drop (next - at) l) ≡ Present t n first stop = cc in
         record { next = next; number = i; value = j; later = a; inside = b }
 
-    by-key : (i : Integer) → integer Key at l ≡ i → integerInside at (at + length l) i → afterKey vectors role at l i ≡ Field key t n first stop
+    by-key : (i : Integer) → integer Key at l ≡ i → integerInside at (at + length l) i → pairField vectors role at l i ≡ Field key t n first stop
         → Keyed vectors role at l key t n first stop
     by-key (NoInteger r) p k e = let z : _≡_ {A = ℕ} 0 1 = cc in absurd (omega arith)
     by-key (One x next) p k e = by-value x next (present vectors role next (drop (next - at) l)) p (omega arith) (omega arith) refl e

@@ -8,7 +8,7 @@ use native.Mathlib.Omega.{arith}
 use mathlib.Core.Bool.{Bool, true, false}
 use mathlib.Core.Option.{Option, none, some}
 use Rattle.words.specs.Pick.{pick}
-use Rattle.hexadecimal.specs.Hexadecimal.{answered as framedAs, frameOf, stored}
+use Rattle.hexadecimal.specs.Hexadecimal.{answered, frameOf, stored}
 use Rattle.hexadecimal.specs.declared.Frame.the-variants.{Bytes, Bad, NoRoom}
 use borrow.Author.Tests.{lt-ltb, le-ltb}
 use Rattle.hexadecimal.proofs.Frames.{told}
@@ -16,20 +16,20 @@ use Rattle.fixed.specs.declared.Facts.{Facts}
 use Rattle.fixed.specs.declared.Site.{Site}
 use Rattle.genotypes.specs.declared.Gt.{Gt}
 use Rattle.tally.specs.Tally.{callsOf}
-use Rattle.frames.specs.Frames.{siteNumbers, callNumbers, acceptedLine, framed, answerLine, frameLine, recordLine}
+use Rattle.frames.specs.Frames.{recordNumbers, callNumbers, acceptedLine, framed, answerLine, frameLine, recordLine}
 use Rattle.frames.specs.Text.{okLine, badLine}
 
-pub accepted-many : (t : Site) (g : Gt) (bs : List ℕ) → 64 < t .alleles → acceptedLine t g bs ≡ okLine (siteNumbers t ++ [])
+pub accepted-many : (t : Site) (g : Gt) (bs : List ℕ) → 64 < t .alleles → acceptedLine t g bs ≡ okLine (recordNumbers t ++ [])
 unfolding acceptedLine callNumbers
 accepted-many t g bs h = rw (lt-ltb _ _ h)
 
 pub accepted-few : (t : Site) (g : Gt) (bs : List ℕ) → t .alleles ≤ 64
-    → acceptedLine t g bs ≡ okLine (siteNumbers t ++ (callsOf g (t .people) bs .without ∷ take (t .alleles + 1) (callsOf g (t .people) bs .counts)))
+    → acceptedLine t g bs ≡ okLine (recordNumbers t ++ (callsOf g (t .people) bs .without ∷ take (t .alleles + 1) (callsOf g (t .people) bs .counts)))
 unfolding acceptedLine callNumbers
 accepted-few t g bs h = rw (le-ltb _ _ h)
 
 -- what a line is by what was answered to it
-pub frame-bad : (room : ℕ) (o : Option (List ℕ)) → framedAs room o ≡ Bad → o ≡ none
+pub frame-bad : (room : ℕ) (o : Option (List ℕ)) → answered room o ≡ Bad → o ≡ none
 frame-bad room none h = refl
 frame-bad room (some bs) h = by-room (ltb room (length bs)) h
   where
@@ -37,7 +37,7 @@ frame-bad room (some bs) h = by-room (ltb room (length bs)) h
     by-room true h = cc
     by-room false h = cc
 
-pub frame-short : {A : Type 0} (room : ℕ) (o : Option (List ℕ)) (short fits : A) → framedAs room o ≡ NoRoom → framed room short fits o ≡ short
+pub frame-short : {A : Type 0} (room : ℕ) (o : Option (List ℕ)) (short fits : A) → answered room o ≡ NoRoom → framed room short fits o ≡ short
 frame-short room none short fits h = let z : _≡_ {A = ℕ} 0 1 = cc in absurd (omega arith)
 frame-short room (some bs) short fits h = by-room (ltb room (length bs)) h
   where
@@ -45,7 +45,7 @@ frame-short room (some bs) short fits h = by-room (ltb room (length bs)) h
     by-room true h = refl
     by-room false h = let z : _≡_ {A = ℕ} 0 1 = cc in absurd (omega arith)
 
-pub frame-fits : {A : Type 0} (room n : ℕ) (o : Option (List ℕ)) (short fits : A) → framedAs room o ≡ Bytes n → framed room short fits o ≡ fits
+pub frame-fits : {A : Type 0} (room n : ℕ) (o : Option (List ℕ)) (short fits : A) → answered room o ≡ Bytes n → framed room short fits o ≡ fits
 frame-fits room n none short fits h = refl
 frame-fits room n (some bs) short fits h = by-room (ltb room (length bs)) h
   where
@@ -54,7 +54,7 @@ frame-fits room n (some bs) short fits h = by-room (ltb room (length bs)) h
     by-room false h = refl
 
 -- a line whose bytes were stored, and a line that is bad
-pub answer-bytes : (f : Facts) (line frame after : List ℕ) (n : ℕ) → framedAs (length frame) (frameOf line) ≡ Bytes n → after ≡ stored frame (frameOf line)
+pub answer-bytes : (f : Facts) (line frame after : List ℕ) (n : ℕ) → answered (length frame) (frameOf line) ≡ Bytes n → after ≡ stored frame (frameOf line)
     → answerLine f line ≡ recordLine f (take n after)
 unfolding answerLine
 answer-bytes f line frame after n h e = ap (frameLine f) (told frame (frameOf line) n h) ∙ ap (λ (b : List ℕ). recordLine f (take n b)) (sym e)

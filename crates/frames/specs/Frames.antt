@@ -19,8 +19,8 @@ use Rattle.frames.specs.declared.Answer.{Answer}
 use Rattle.frames.specs.declared.Answer.the-variants.{Text, NoRoom}
 
 -- length, alleles, INFO fields, FORMAT fields, people
-abbrev pub siteNumbers : Site → List ℕ
-siteNumbers t = t .length ∷ t .alleles ∷ t .infos ∷ t .formats ∷ t .people ∷ []
+abbrev pub recordNumbers : Site → List ℕ
+recordNumbers t = t .length ∷ t .alleles ∷ t .infos ∷ t .formats ∷ t .people ∷ []
 
 -- people without genotype, missing alleles, the calls of each allele; nothing over 64 alleles
 unfoldable pub callNumbers : Site → Gt → List ℕ → List ℕ
@@ -30,7 +30,7 @@ callNumbers t g bs =
 
 -- an accepted record, with no bytes after it
 unfoldable pub acceptedLine : Site → Gt → List ℕ → List ℕ
-acceptedLine t g bs = okLine (siteNumbers t ++ callNumbers t g bs)
+acceptedLine t g bs = okLine (recordNumbers t ++ callNumbers t g bs)
 
 -- `no` with the refusal's number and place; `bad` where bytes follow an accepted record; else `ok`
 abbrev pub readLine : List ℕ → Reading → List ℕ
@@ -65,11 +65,11 @@ abbrev pub framed : {A : Type 0} → ℕ → A → A → Option (List ℕ) → A
 framed room short fits none = fits
 framed room short fits (some bs) = pick (ltb room (length bs)) short fits
 
-unfoldable pub answer : ℕ → ℕ → Facts → List ℕ → Answer
-answer frame out f line = pick (ltb out textRoom) NoRoom (framed frame NoRoom (Text (length (answerLine f line))) (frameOf line))
+unfoldable pub lineSaid : ℕ → ℕ → Facts → List ℕ → Answer
+lineSaid frame out f line = pick (ltb out textRoom) NoRoom (framed frame NoRoom (Text (length (answerLine f line))) (frameOf line))
 
-unfoldable pub answered : ℕ → List ℕ → Facts → List ℕ → List ℕ
-answered frame out f line = pick (ltb (length out) textRoom) out (framed frame out (sets out 0 (answerLine f line)) (frameOf line))
+unfoldable pub lineSaidIn : ℕ → List ℕ → Facts → List ℕ → List ℕ
+lineSaidIn frame out f line = pick (ltb (length out) textRoom) out (framed frame out (sets out 0 (answerLine f line)) (frameOf line))
 
 -- the record's bytes stand at the start of the other buffer
 unfoldable pub decoded : List ℕ → ℕ → List ℕ → List ℕ

@@ -6,7 +6,7 @@ ghost use Prim.Native.Nat.{_+_, _*_, _≤_};
 ghost use lib.ListN.{length};
 ghost use lib.Seq.{sets};
 ghost use Rattle.frames.specs.Text.{spaced, line, badLine, noLine};
-ghost use Rattle.frames.specs.Frames.{acceptedLine, recordLine, said, saidIn, answer, answered, textInside, decoded};
+ghost use Rattle.frames.specs.Frames.{acceptedLine, recordLine, said, saidIn, lineSaid, lineSaidIn, textInside, decoded};
 use decimal::Put;
 use fixed::Facts;
 use fixed::Site;
@@ -161,9 +161,9 @@ fn put_record(out: &mut [u8], bytes: &[u8], facts: Facts) -> usize
 // The answer to a record's line, the whole text, at the start of `out`, and its length; the record's bytes go to the start of `frame`. Or no room,
 // and nothing said.
 pub fn answer_line(line: &[u8], facts: Facts, frame: &mut [u8], out: &mut [u8]) -> Answer
-    ensures told { λ r. ⌜ r ≡ answer (length (now (frame .entry))) (length (now (out .entry))) facts (now (line .entry)) ⌝ }
+    ensures told { λ r. ⌜ r ≡ lineSaid (length (now (frame .entry))) (length (now (out .entry))) facts (now (line .entry)) ⌝ }
     ensures inside { λ r. ⌜ textInside (length (now (out .entry))) r ⌝ }
-    ensures written { λ _. ⌜ now (out .exit) ≡ answered (length (now (frame .entry))) (now (out .entry)) facts (now (line .entry)) ⌝ }
+    ensures written { λ _. ⌜ now (out .exit) ≡ lineSaidIn (length (now (frame .entry))) (now (out .entry)) facts (now (line .entry)) ⌝ }
     ensures decoded { λ _. ⌜ now (frame .exit) ≡ decoded (now (frame .entry)) (length (now (out .entry))) (now (line .entry)) ⌝ }
 {
     if out.len() < TEXT_ROOM {

@@ -10,7 +10,7 @@ use lib.ListN.{length, take}
 use lib.Seq.{sets, sets-eq, take-append-seam}
 use borrow.Author.Tests.{lt-ltb, le-ltb, ltb-false, eq-eqb, ne-eqb}
 use Rattle.words.specs.Pick.{pick}
-use Rattle.hexadecimal.specs.Hexadecimal.{digits, eights, choiceOf, counted, stored}
+use Rattle.hexadecimal.specs.Hexadecimal.{digits, eights, choiceOf, choiceAnswered, stored}
 use Rattle.hexadecimal.specs.declared.ChoiceLine.the-variants.{People, NoRoom}
 
 pub choice-long : (l : List ℕ) → 60000 < length l → choiceOf l ≡ none
@@ -30,7 +30,7 @@ unfolding choiceOf
 choice-good l h o d = rw (le-ltb _ _ h, eq-eqb _ _ o, d)
 
 -- where n people are told, the first n of the buffer are the line's
-pub chosen : (buf : List ℕ) (f : Option (List ℕ)) (n : ℕ) → counted (length buf) f ≡ People n → f ≡ some (take n (stored buf f))
+pub chosen : (buf : List ℕ) (f : Option (List ℕ)) (n : ℕ) → choiceAnswered (length buf) f ≡ People n → f ≡ some (take n (stored buf f))
 chosen buf none n h = cc
 chosen buf (some cs) n h = by-room (ltb (length buf) (length cs)) refl h
   where

@@ -11,7 +11,7 @@ use lib.ListN.{length, getD, take, drop, length-drop}
 use lib.Seq.{drop-cons, drop-drop, getD-drop}
 use borrow.Author.Tests.{leb-false}
 use Rattle.words.specs.Pick.{pick}
-use Rattle.hexadecimal.specs.Hexadecimal.{digit, digits, byte, paired, big, eights}
+use Rattle.hexadecimal.specs.Hexadecimal.{digit, digits, byte, lineBytes, big, eights}
 
 passed : (b r : Bool) → pick b false r ≡ true → (b ≡ false) × (r ≡ true)
 passed true r h = (cc, cc)
@@ -30,15 +30,15 @@ unfolding digits
 digits-turn s i h = rw (drop-cons s i 0 h, add-one i)
 
 pub paired-turn : (s : List ℕ) (i : ℕ) → i + 1 < length s
-    → paired (drop i s) ≡ byte (getD s i 0) (getD s (i + 1) 0) ∷ paired (drop (i + 2) s)
-unfolding paired
+    → lineBytes (drop i s) ≡ byte (getD s i 0) (getD s (i + 1) 0) ∷ lineBytes (drop (i + 2) s)
+unfolding lineBytes
 paired-turn s i h = rw (drop-cons s i 0 (omega arith), drop-cons s (suc i) 0 (omega arith), add-one i, add-two i)
 
-pub length-paired : (l : List ℕ) → length (paired l) ≡ length l / 2
-unfolding paired
-length-paired [] = refl
-length-paired (h ∷ []) = refl
-length-paired (h ∷ l ∷ rest) = omega (arith, length-paired rest)
+pub length-line-bytes : (l : List ℕ) → length (lineBytes l) ≡ length l / 2
+unfolding lineBytes
+length-line-bytes [] = refl
+length-line-bytes (h ∷ []) = refl
+length-line-bytes (h ∷ l ∷ rest) = omega (arith, length-line-bytes rest)
 
 pub eights-turn : (n at : ℕ) (s : List ℕ) → 0 < n → eights n (drop at s) ≡ big (take 8 (drop at s)) ∷ eights (n - 1) (drop (at + 8) s)
 unfolding eights

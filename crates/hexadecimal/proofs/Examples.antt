@@ -3,7 +3,7 @@ use mathlib.Core.Path.{_≡_, refl}
 use mathlib.Core.List.{[], _∷_, _++_}
 use mathlib.Core.Option.{none, some}
 use lib.ListN.{replicate}
-use Rattle.hexadecimal.specs.Hexadecimal.{digit, digits, byte, paired, big, factsOf, eights, choiceOf, frameOf}
+use Rattle.hexadecimal.specs.Hexadecimal.{digit, digits, byte, lineBytes, big, factsOf, eights, choiceOf, frameOf}
 use Rattle.hexadecimal.specs.declared.FactsLine.the-variants.{Facts, NoFacts}
 
 pub record Worked : Type 0 where
@@ -29,7 +29,7 @@ pub record Worked : Type 0 where
   pub no-person : choiceOf (replicate 7 0x30 ++ 0x67 ∷ []) ≡ none
 
 pub worked : Worked
-unfolding digit digits byte paired big factsOf eights choiceOf frameOf
+unfolding digit digits byte lineBytes big factsOf eights choiceOf frameOf
 worked =
     record {
       two-bytes = refl;

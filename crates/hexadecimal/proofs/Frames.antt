@@ -11,7 +11,7 @@ use native.Mathlib.Omega.{arith}
 use borrow.Author.Tests.{lt-ltb, le-ltb, ltb-false, eq-eqb, ne-eqb}
 use Rattle.words.specs.Pick.{pick}
 use Rattle.words.proofs.Pick.{pick-same}
-use Rattle.hexadecimal.specs.Hexadecimal.{digits, paired, frameOf, answered, stored}
+use Rattle.hexadecimal.specs.Hexadecimal.{digits, lineBytes, frameOf, answered, stored}
 use Rattle.hexadecimal.specs.declared.Frame.the-variants.{Bytes, NoRoom}
 
 pub frame-long : (l : List ℕ) → 60000 < length l → frameOf l ≡ none
@@ -26,7 +26,7 @@ pub frame-other : (l : List ℕ) → digits l ≡ false → frameOf l ≡ none
 unfolding frameOf
 frame-other l h = rw (h, pick-same {A = Option (List ℕ)} (eqb (length l % 2) 1) none) (pick-same (ltb 60000 (length l)) none)
 
-pub frame-good : (l : List ℕ) → length l ≤ 60000 → (length l % 2 ≡ 1 → ⊥) → digits l ≡ true → frameOf l ≡ some (paired l)
+pub frame-good : (l : List ℕ) → length l ≤ 60000 → (length l % 2 ≡ 1 → ⊥) → digits l ≡ true → frameOf l ≡ some (lineBytes l)
 unfolding frameOf
 frame-good l h o d = rw (le-ltb _ _ h, ne-eqb _ _ o, d)
 

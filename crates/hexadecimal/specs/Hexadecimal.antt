@@ -17,15 +17,15 @@ use Rattle.hexadecimal.specs.declared.Frame.{Frame}
 use Rattle.hexadecimal.specs.declared.Frame.the-variants.{Bytes, Bad, NoRoom}
 
 -- a character is one of those from a first to a last
-abbrev pub among : ℕ → ℕ → ℕ → Bool
-among first last c = pick (leb first c) (leb c last) false
+abbrev pub inRange : ℕ → ℕ → ℕ → Bool
+inRange first last c = pick (leb first c) (leb c last) false
 
 -- the value of a character as a digit: 0 to 9, A to F or a to f; 16 for any other character
 unfoldable pub digit : ℕ → ℕ
 digit c =
-    pick (among 0x30 0x39 c) (c - 0x30)
-    (pick (among 0x41 0x46 c) (c - 0x41 + 10)
-    (pick (among 0x61 0x66 c) (c - 0x61 + 10)
+    pick (inRange 0x30 0x39 c) (c - 0x30)
+    (pick (inRange 0x41 0x46 c) (c - 0x41 + 10)
+    (pick (inRange 0x61 0x66 c) (c - 0x61 + 10)
     16))
 
 -- the values of n characters, from c on
@@ -43,10 +43,10 @@ unfoldable pub byte : ℕ → ℕ → ℕ
 byte h l = digit h * 16 + digit l
 
 -- the bytes of a line of digits, two digits a byte; an odd last digit is no byte
-unfoldable pub paired : List ℕ → List ℕ
-paired [] = []
-paired (h ∷ []) = []
-paired (h ∷ l ∷ rest) = byte h l ∷ paired rest
+unfoldable pub lineBytes : List ℕ → List ℕ
+lineBytes [] = []
+lineBytes (h ∷ []) = []
+lineBytes (h ∷ l ∷ rest) = byte h l ∷ lineBytes rest
 
 -- the number of a list of digits, high digit first
 unfoldable pub big : List ℕ → ℕ
@@ -73,9 +73,9 @@ choiceOf l =
     pick (ltb 60000 (length l)) none (pick (eqb (length l % 8) 0) (pick (digits l) (some (eights (length l / 8) l)) none) none)
 
 -- what is answered to a choice's line, where there is room for so many people
-abbrev pub counted : ℕ → Option (List ℕ) → ChoiceLine
-counted room none = BadChoice
-counted room (some cs) = pick (ltb room (length cs)) NoRoomForPeople (People (length cs))
+abbrev pub choiceAnswered : ℕ → Option (List ℕ) → ChoiceLine
+choiceAnswered room none = BadChoice
+choiceAnswered room (some cs) = pick (ltb room (length cs)) NoRoomForPeople (People (length cs))
 
 -- the people that were stored lie in a buffer of so many
 abbrev pub peopleInside : ℕ → ChoiceLine → Type 0
@@ -85,7 +85,7 @@ peopleInside room NoRoomForPeople = Unit {0}
 
 -- a record's line: none where it is bad, being over 60,000 digits, of odd length, or with another character; else its bytes
 unfoldable pub frameOf : List ℕ → Option (List ℕ)
-frameOf l = pick (ltb 60000 (length l)) none (pick (eqb (length l % 2) 1) none (pick (digits l) (some (paired l)) none))
+frameOf l = pick (ltb 60000 (length l)) none (pick (eqb (length l % 2) 1) none (pick (digits l) (some (lineBytes l)) none))
 
 -- what is answered to a line, where there is room for so many bytes
 abbrev pub answered : ℕ → Option (List ℕ) → Frame

@@ -5,7 +5,7 @@ ghost use mathlib.Core.Bool.{true};
 ghost use Prim.Native.Nat.{_+_, _*_, _<_, _≤_};
 ghost use lib.ListN.{drop, getD, length, take};
 ghost use lib.Seq.{sets};
-ghost use Rattle.hexadecimal.specs.Hexadecimal.{digit, valuesFrom, digits, byte, paired, big, factsOf, eights, choiceOf, counted, peopleInside, frameOf, answered, bytesInside, stored};
+ghost use Rattle.hexadecimal.specs.Hexadecimal.{digit, valuesFrom, digits, byte, lineBytes, big, factsOf, eights, choiceOf, choiceAnswered, peopleInside, frameOf, answered, bytesInside, stored};
 
 mod characters; // the value of each character as a digit
 
@@ -124,7 +124,7 @@ fn store_people(table: &[u8; 256], line: &[u8], n: usize, choice: &mut [u32])
 
 // A choice's line: its people stored from the buffer's start on; a bad line is told before a short buffer, and neither writes.
 pub fn read_choice(line: &[u8], choice: &mut [u32]) -> ChoiceLine
-    ensures told { λ r. ⌜ r ≡ counted (length (now (choice .entry))) (choiceOf (now (line .entry))) ⌝ }
+    ensures told { λ r. ⌜ r ≡ choiceAnswered (length (now (choice .entry))) (choiceOf (now (line .entry))) ⌝ }
     ensures inside { λ r. ⌜ peopleInside (length (now (choice .entry))) r ⌝ }
     ensures written { λ _. ⌜ now (choice .exit) ≡ stored (now (choice .entry)) (choiceOf (now (line .entry))) ⌝ }
 {
@@ -149,7 +149,7 @@ pub fn read_choice(line: &[u8], choice: &mut [u32]) -> ChoiceLine
 // Stores the n bytes of a line of digits from the buffer's start on.
 fn store(table: &[u8; 256], line: &[u8], n: usize, buf: &mut [u8])
     requires { ⌜ (now table ≡ valuesFrom 0 256) × (length (now line) ≡ n * 2) × (n ≤ length (now buf)) × (digits (now line) ≡ true) ⌝ }
-    ensures { λ _. ⌜ now (buf .exit) ≡ sets (now (buf .entry)) 0 (paired (now (line .entry))) ⌝ }
+    ensures { λ _. ⌜ now (buf .exit) ≡ sets (now (buf .entry)) 0 (lineBytes (now (line .entry))) ⌝ }
 {
     let mut i = 0;
     let mut o = 0;

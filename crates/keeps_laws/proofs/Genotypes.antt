@@ -23,7 +23,7 @@ use Rattle.fetch.proofs.Inside.{drop-past}
 use Rattle.fetch_laws.proofs.Agree.{sound-there, sound-judged}
 use Rattle.fetch_laws.proofs.FormatFields.{JudgedField, formats-field}
 use Rattle.contents.proofs.Blocks.{formatOf, itemsOf}
-use Rattle.build_laws.specs.Records.{joined, fieldBytes, KeepsField, KeepsFields}
+use Rattle.build_laws.specs.Records.{joined, formatBytes, KeepsField, KeepsFields}
 use Rattle.choose_laws.proofs.Stored.{Bytes-drop}
 use Rattle.keeps_laws.proofs.Descriptors.{key-keeps}
 use Rattle.keeps_laws.proofs.Values.{elementsFrom, value-keeps, gt-types}
@@ -41,7 +41,7 @@ formatAt at l key next t n first stop =
 
 record FieldKeeps (f : Facts) (alleles : ℕ) (earlier : List ℕ) (at : ℕ) (l : List ℕ) (x : Field) (stop : ℕ) : Type 0 where
   keeps : KeepsField f alleles earlier x
-  long : length (fieldBytes x) + length (drop (stop - at) l) ≤ length l
+  long : length (formatBytes x) + length (drop (stop - at) l) ≤ length l
 
 field-keeps : (f : Facts) (alleles n : ℕ) (earlier : List ℕ) (known : Gt) (at : ℕ) (l : List ℕ) {g : Gt} → Bytes l
     → (j : JudgedField (f .strings) (f .people) (f .gt) alleles n earlier known at l g)
@@ -83,7 +83,7 @@ fieldsAt people n at l = map formatOf (itemsOf people (replicate n Format) at l)
 pub record Fields (f : Facts) (alleles n : ℕ) (earlier : List ℕ) (at : ℕ) (l : List ℕ) : Type 0 where
   pub count : length (fieldsAt (f .people) n at l) ≡ n
   pub keep : KeepsFields f alleles earlier (fieldsAt (f .people) n at l)
-  pub long : length (joined fieldBytes (fieldsAt (f .people) n at l)) ≤ length l
+  pub long : length (joined formatBytes (fieldsAt (f .people) n at l)) ≤ length l
 
 pub fields-keep : (f : Facts) (alleles n : ℕ) (earlier : List ℕ) (known : Gt) (at : ℕ) (l : List ℕ) {g : Gt}
     → formats (f .strings) (f .people) (f .gt) alleles n earlier known at l ≡ Sound g → Bytes l → Fields f alleles n earlier at l
@@ -100,7 +100,7 @@ fields-keep f alleles (suc n) earlier known at l h b =
     let on = fields-keep f alleles n (earlier ++ (key ∷ [])) _ stop rest (j .on) (Bytes-drop (stop - at) l b) in
     let shows : fieldsAt (f .people) (suc n) at l ≡ x ∷ fieldsAt (f .people) n stop rest =
     rw (j .field, drop-past l at next (j .first) (j .keyLater) (j .later)) in
-    let both = length-append (fieldBytes x) (joined fieldBytes (fieldsAt (f .people) n stop rest)) in
+    let both = length-append (formatBytes x) (joined formatBytes (fieldsAt (f .people) n stop rest)) in
     record {
       count = ap length shows ∙ ap suc (on .count);
       keep = rw shows (k .keeps, on .keep);

@@ -19,7 +19,7 @@ use Rattle.types.specs.declared.Use.{Use}
 use Rattle.types.specs.declared.Element.{Element}
 use Rattle.types.specs.declared.Element.the-variants.{Plain, Missing, End, Reserved}
 use Rattle.vectors.specs.Sound.{mostOf}
-use Rattle.vectors.specs.Vectors.{numbers, turned, follow, vector, vectors, judged}
+use Rattle.vectors.specs.Vectors.{numbers, elementTurn, follow, vector, vectors, judged}
 use Rattle.vectors.specs.declared.Judged.{Judged}
 use Rattle.vectors.specs.declared.Judged.the-variants.{Sound}
 use Rattle.encode.specs.Encode.{typeFor}
@@ -104,7 +104,7 @@ vector-plain most t w at e (y ∷ ys) h = by-kind (kind t y) refl e h (λ b. vec
     rest : Bool → Judged
     rest b = vector most t w (at + w) b ys
 
-    by-kind : (k : Element) → kind t y ≡ k → (b : Bool) → follow at (turned most b k y) rest ≡ Sound
+    by-kind : (k : Element) → kind t y ≡ k → (b : Bool) → follow at (elementTurn most b k y) rest ≡ Sound
         → ((b : Bool) → rest b ≡ Sound → All (λ y. kind t y ≢ Reserved) ys) → (kind t y ≢ Reserved) × All (λ y. kind t y ≢ Reserved) ys
     by-kind End p b s on = (λ r. let z : _≡_ {A = ℕ} 0 1 = cc in omega arith, on true s)
     by-kind Reserved p b s on = let z : _≡_ {A = ℕ} 0 1 = cc in absurd (omega arith)
@@ -131,8 +131,8 @@ vector-shown t g w w′ at at′ alleles role e (y ∷ ys) f h =
     given : Bool → Judged
     given b = vector (mostOf role alleles g) g w′ (at′ + w′) b (map (shown t) ys)
 
-    by-kind : (k : Element) (b : Bool) → follow at (turned (mostOf role alleles t) b k y) held ≡ Sound → ((b : Bool) → held b ≡ Sound → given b ≡ Sound)
-        → follow at′ (turned (mostOf role alleles g) b k (shown t y)) given ≡ Sound
+    by-kind : (k : Element) (b : Bool) → follow at (elementTurn (mostOf role alleles t) b k y) held ≡ Sound → ((b : Bool) → held b ≡ Sound → given b ≡ Sound)
+        → follow at′ (elementTurn (mostOf role alleles g) b k (shown t y)) given ≡ Sound
     by-kind End b s on = on true s
     by-kind Reserved b s on = cc
     by-kind Missing true s on = cc
@@ -140,7 +140,7 @@ vector-shown t g w w′ at at′ alleles role e (y ∷ ys) f h =
     by-kind Plain true s on = cc
     by-kind Plain false s on = by-most (ltb (mostOf role alleles t) y) refl
       where
-        by-most : (q : Bool) → ltb (mostOf role alleles t) y ≡ q → follow at′ (turned (mostOf role alleles g) false Plain (shown t y)) given ≡ Sound
+        by-most : (q : Bool) → ltb (mostOf role alleles t) y ≡ q → follow at′ (elementTurn (mostOf role alleles g) false Plain (shown t y)) given ≡ Sound
         by-most true p = let z = rw p at s in cc
         by-most false p =
             let i = f .0 .under role alleles (ltb-false (mostOf role alleles t) y p) in

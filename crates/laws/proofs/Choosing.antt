@@ -23,7 +23,7 @@ use Rattle.choose_laws.proofs.Divided.{tallied-accepted}
 use Rattle.choose_laws.proofs.Everybody.{chosenRecord-everybody}
 use Rattle.choose_laws.proofs.Shows.{shownOf-chosenRecord}
 use Rattle.choose_laws.proofs.Tallies.{tallied-sum}
-use Rattle.laws.specs.Choosing.{Choice, AddUp, Choosing}
+use Rattle.laws.specs.Choosing.{Choice, AddUp, ChoosingPeople}
 
 -- the tallies of the whole record and of its two parts are counted, and the parts' add up
 add-up : (f : Facts) (s : List ℕ) (t : Site) (g : Gt) (cs ds : List ℕ) → Bytes s → reading f s ≡ Accepted t g → t .alleles ≤ 64
@@ -48,7 +48,7 @@ unfolding afterChoosing
 buffer-begins f s t g cs buf c r =
     rw (c .read, c .ascends, le-ltb _ _ r, sets-start buf (chosenRecord t cs s) r) (take-append-seam (chosenRecord t cs s) _)
 
-pub choosing : Choosing
+pub choosing : ChoosingPeople
 choosing =
     record {
       accepted = λ f s t g cs c. let r = release f s t g cs (c .bytes) (c .read) (c .ascends) in record { gt = r .gt; read = r .read };

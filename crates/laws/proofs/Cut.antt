@@ -22,7 +22,7 @@ use Rattle.record.specs.Reading.{siteOf, genotypesOf, reading}
 use Rattle.fetch.specs.Fields.{alone, paired}
 use Rattle.fetch.specs.Account.{fieldsOf, siteKinds, siteFields, genotypeFields, account, ofKind, numbered}
 use Rattle.fetch.specs.Fetch.{fieldOf, found, fetched}
-use Rattle.calls.specs.Calls.{slots, alleleOf, alleles, people, called, without, howMany, counters, tally, peopleOf, counted}
+use Rattle.calls.specs.Calls.{slots, alleleOf, alleles, people, called, without, howMany, counters, peopleTally, peopleOf, counted}
 use Rattle.tally.specs.Tally.{callsOf, tallied}
 use Rattle.choice.specs.Choice.{ascendingFrom, chosenParts}
 use Rattle.choose.specs.Chosen.{chosenFields, chosenBlock, chosenSite, chosenRecord}
@@ -40,7 +40,7 @@ two = record { first = refl; second = refl; once = λ p h. once p h }
     once (suc (suc p)) h = absurd (omega arith)
 
 pub sample-cut : Cut
-unfolding sample second among le number bytes outside rowOf widthOf marked kind widened shown integer trueLength keyed mayStand described present numbers shownNumbers vector vectors judged highest codeMost sound field posWrong peopleWrong qualWrong blocks wrongAt siteAt fixed times alleleBytes allele filters filtered filter info site roleOf gtNow formats siteOf genotypesOf reading paired alone fieldsOf siteKinds siteFields genotypeFields account ofKind numbered fieldOf found fetched slots alleleOf alleles people called without howMany counters tally peopleOf counted callsOf tallied ascendingFrom chosenParts chosenFields chosenBlock chosenSite chosenRecord choosing
+unfolding sample second among le number bytes outside rowOf widthOf marked kind widened shown integer trueLength keyed mayStand described present numbers shownNumbers vector vectors judged highest codeMost sound field posWrong peopleWrong qualWrong blocks wrongAt siteAt fixed times alleleBytes allele filters filtered filter info site roleOf gtNow formats siteOf genotypesOf reading paired alone fieldsOf siteKinds siteFields genotypeFields account ofKind numbered fieldOf found fetched slots alleleOf alleles people called without howMany counters peopleTally peopleOf counted callsOf tallied ascendingFrom chosenParts chosenFields chosenBlock chosenSite chosenRecord choosing
 sample-cut =
     record {
       bytes = refl;

@@ -23,9 +23,9 @@ use Rattle.record.specs.Shown.{Pair, Field, integers, elementsOf}
 use Rattle.fetch.specs.Fields.{alone, paired}
 use Rattle.fetch.specs.Account.{fieldsOf, siteKinds, siteFields, genotypeFields, account, ofKind}
 use Rattle.contents.specs.Contents.{elementsAt, shownOf}
-use Rattle.calls.specs.Calls.{slots, alleleOf, alleles, people, called, without, howMany, counters, tally, peopleOf, counted}
+use Rattle.calls.specs.Calls.{slots, alleleOf, alleles, people, called, without, howMany, counters, peopleTally, peopleOf, counted}
 use Rattle.tally.specs.Tally.{callsOf, tallied}
-use Rattle.decimal.specs.Decimal.{written, decimal}
+use Rattle.decimal.specs.Decimal.{inDecimal, decimal}
 use Rattle.frames.specs.Text.{spaced}
 use Rattle.frames.specs.Frames.{callNumbers, acceptedLine, recordLine}
 use Rattle.encode.specs.Encode.{integerBytes, descriptorBytes, widest, markedAs, narrowed, elementsBytes, valueBytes}
@@ -104,5 +104,5 @@ sample-keeps =
     short = omega arith
 
 pub sample-read : Sample
-unfolding sample among le number outside rowOf widthOf marked kind widened shown integer trueLength keyed mayStand described present numbers shownNumbers vector vectors judged highest codeMost sound field posWrong peopleWrong qualWrong blocks wrongAt siteAt fixed times alleleBytes allele filters filtered filter info site roleOf gtNow formats siteOf genotypesOf reading elementsOf flatten elementsAt alone paired fieldsOf siteKinds siteFields genotypeFields account ofKind shownOf slots alleleOf alleles people called without howMany counters tally peopleOf counted callsOf tallied written decimal spaced callNumbers acceptedLine recordLine
+unfolding sample among le number outside rowOf widthOf marked kind widened shown integer trueLength keyed mayStand described present numbers shownNumbers vector vectors judged highest codeMost sound field posWrong peopleWrong qualWrong blocks wrongAt siteAt fixed times alleleBytes allele filters filtered filter info site roleOf gtNow formats siteOf genotypesOf reading elementsOf flatten elementsAt alone paired fieldsOf siteKinds siteFields genotypeFields account ofKind shownOf slots alleleOf alleles people called without howMany counters peopleTally peopleOf counted callsOf tallied inDecimal decimal spaced callNumbers acceptedLine recordLine
 sample-read = record { read = refl; shows = refl; built = sample-bytes; tight = rw sample-bytes at (keeps-tight facts sampleShown sample-keeps); tally = refl; line = refl }

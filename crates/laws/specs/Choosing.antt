@@ -39,7 +39,7 @@ pub record AddUp (f : Facts) (s : List ℕ) (fa : Facts) (a : List ℕ) (fb : Fa
   pub counted-second : tallied fb b .answer ≡ Counted second
   pub sum : tallied f s .calls ≡ together (tallied fa a .calls) (tallied fb b .calls)
 
-pub record Choosing : Type 0 where
+pub record ChoosingPeople : Type 0 where
   -- the chosen record is accepted for that number of people, with the same fixed fields and counts but those that 01 names
   pub accepted : (f : Facts) (s : List ℕ) (t : Site) (g : Gt) (cs : List ℕ) → Choice f s t g cs
       → Accepts (forPeople (length cs) f) (chosenRecord t cs s) (releasedSite cs s t)

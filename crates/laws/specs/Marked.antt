@@ -1,4 +1,5 @@
--- 01's marked examples, M1 to M12, one statement with the fields of each. Rests on the definitions of types, values and vectors, and on the sample record.
+-- 01's marked examples, M1 to M12, one statement with the fields of each. Rests on the definitions of types, values and vectors, on build_rules
+-- for `any`, and on the sample record.
 use mathlib.Core.Path.{_≡_}
 use mathlib.Core.Bool.{true}
 use mathlib.Core.List.{List, [], _∷_}
@@ -20,13 +21,10 @@ use Rattle.tally.specs.Tally.{tallied}
 use Rattle.fixed.specs.Layout.{indivAt, field}
 use Rattle.fetch.specs.Fetch.{fetched}
 use Rattle.fetch.specs.declared.Kind.the-variants.{Format}
+use Rattle.build_rules.specs.Values.{any}
 use Rattle.choose_laws.specs.Releases.{forPeople}
 use Rattle.laws.specs.Cut.{second}
 use Rattle.laws.specs.Sample.{facts, sample}
-
--- no plain element is too large
-abbrev pub any : ℕ
-any = 0xFFFFFFFF
 
 -- `negsuc n` is −(n + 1)
 pub record Marked : Type 0 where

@@ -10,15 +10,15 @@ use Rattle.words.specs.Words.{number}
 use Rattle.types.specs.Rows.{widthOf}
 use Rattle.types.specs.Elements.{shown}
 use Rattle.vectors.specs.Vectors.{shownNumbers}
-use Rattle.repeats.specs.Repeats.{elementsOf}
+use Rattle.repeats.specs.Repeats.{shownElements}
 
 length-shown : (t w n : ℕ) (l : List ℕ) → length (shownNumbers t w n l) ≡ n
 unfolding shownNumbers
 length-shown t w zero l = refl
 length-shown t w (suc n) l = rw (length-shown t w n (drop w l))
 
-pub length-elements : (t : ℕ) (l : List ℕ) → length (elementsOf t l) ≡ length l / widthOf t
-unfolding elementsOf
+pub length-elements : (t : ℕ) (l : List ℕ) → length (shownElements t l) ≡ length l / widthOf t
+unfolding shownElements
 length-elements t l = length-shown t (widthOf t) (length l / widthOf t) l
 
 getD-shown : (t w n i : ℕ) (l : List ℕ) → i < n → getD (shownNumbers t w n l) i 0 ≡ shown t (number w (drop (i * w) l))
@@ -30,8 +30,8 @@ getD-shown t w (suc n) (suc i) l h =
     getD-shown t w n i (drop w l) (omega arith) ∙ rw (drop-drop (i * w) w l, e)
 
 pub getD-elements : (t i : ℕ) (l : List ℕ) → i < length l / widthOf t
-    → getD (elementsOf t l) i 0 ≡ shown t (number (widthOf t) (drop (i * widthOf t) l))
-unfolding elementsOf
+    → getD (shownElements t l) i 0 ≡ shown t (number (widthOf t) (drop (i * widthOf t) l))
+unfolding shownElements
 getD-elements t i l h = getD-shown t (widthOf t) (length l / widthOf t) i l h
 
 -- an element by its index has room
@@ -61,8 +61,8 @@ whole k (suc w) m h = mul-div-cancel k (omega arith)
 pub front-room : (k w m : ℕ) → k ≤ m / w → k * w ≤ m
 front-room k w m h = let q : k * w ≤ m / w * w = mul-le-mul-right w h in omega (arith, q, div-mul-le-self m w)
 
-pub elements-front : (t k : ℕ) (l : List ℕ) → k ≤ length l / widthOf t → elementsOf t (take (k * widthOf t) l) ≡ take k (elementsOf t l)
-unfolding elementsOf
+pub elements-front : (t k : ℕ) (l : List ℕ) → k ≤ length l / widthOf t → shownElements t (take (k * widthOf t) l) ≡ take k (shownElements t l)
+unfolding shownElements
 elements-front t k l h =
     let w = widthOf t in
     let e : length (take (k * w) l) ≡ k * w = length-take-le (k * w) l (front-room k w (length l) h) in

@@ -13,7 +13,7 @@ use lib.Seq.{getD-set-same, getD-set-other}
 use borrow.Author.Tests.{eq-eqb, ne-eqb, eqb-true, eqb-false}
 use Rattle.words.specs.Lists.{among}
 use Rattle.words.specs.Pick.{pick}
-use Rattle.repeats.specs.Windows.{earlier, stood, Fresh, held, marked, noted, noting}
+use Rattle.repeats.specs.Windows.{earlier, stood, Fresh, held, withBit, noted, noting}
 use Rattle.repeats.proofs.Bits.{set-same, set-other}
 use Rattle.repeats.proofs.Lists.{onward}
 
@@ -28,17 +28,17 @@ notes-none window n e j h =
     rw (getD-replicate {A = ℕ} n (j / 32) 0 0 (omega arith), zero-div (2 ^ (j % 32)))
 
 -- an offset that is set is held, and no other one is that was not
-pub marked-same : (bits : List ℕ) (y : ℕ) → y / 32 < length bits → held bits y ≡ false → held (marked bits y) y ≡ true
-unfolding held marked
-marked-same bits y h e =
+pub with-bit-same : (bits : List ℕ) (y : ℕ) → y / 32 < length bits → held bits y ≡ false → held (withBit bits y) y ≡ true
+unfolding held withBit
+with-bit-same bits y h e =
     let v = getD bits (y / 32) 0 in
     let n = eqb-false (v / 2 ^ (y % 32) % 2) 1 e in
     let z : v / 2 ^ (y % 32) % 2 ≡ 0 = omega (arith, n) in
     rw (getD-set-same bits (y / 32) (v + 2 ^ (y % 32)) 0 h, set-same v (y % 32) z)
 
-pub marked-other : (bits : List ℕ) (y j : ℕ) → y / 32 < length bits → held bits y ≡ false → j ≢ y → held (marked bits y) j ≡ held bits j
-unfolding held marked
-marked-other bits y j h e d = by-word (eqb (j / 32) (y / 32)) refl
+pub with-bit-other : (bits : List ℕ) (y j : ℕ) → y / 32 < length bits → held bits y ≡ false → j ≢ y → held (withBit bits y) j ≡ held bits j
+unfolding held withBit
+with-bit-other bits y j h e d = by-word (eqb (j / 32) (y / 32)) refl
   where
     v : ℕ
     v = getD bits (y / 32) 0
@@ -46,7 +46,7 @@ marked-other bits y j h e d = by-word (eqb (j / 32) (y / 32)) refl
     z : v / 2 ^ (y % 32) % 2 ≡ 0
     z = let n = eqb-false (v / 2 ^ (y % 32) % 2) 1 e in omega (arith, n)
 
-    by-word : (c : Bool) → eqb (j / 32) (y / 32) ≡ c → held (marked bits y) j ≡ held bits j
+    by-word : (c : Bool) → eqb (j / 32) (y / 32) ≡ c → held (withBit bits y) j ≡ held bits j
     by-word true c =
         let q = eqb-true (j / 32) (y / 32) c in
         rw (q, getD-set-same bits (y / 32) (v + 2 ^ (y % 32)) 0 h, set-other v (y % 32) (j % 32) (λ s. d (omega (arith, q, s))) z)
@@ -76,7 +76,7 @@ unfolding noted noting among
 notes-more window x bits ys l n f j h = by-window (eqb (x / 4194304) window) refl f
   where
     by-window : (c : Bool) → eqb (x / 4194304) window ≡ c → pick c (held bits (x % 4194304)) false ≡ false
-        → held (pick c (pick (held bits (x % 4194304)) bits (marked bits (x % 4194304))) bits) j
+        → held (pick c (pick (held bits (x % 4194304)) bits (withBit bits (x % 4194304))) bits) j
         ≡ pick (eqb x (window * 4194304 + j)) true (among (window * 4194304 + j) ys)
     by-window true e k = by-offset (eqb j (x % 4194304)) refl
       where
@@ -84,15 +84,15 @@ notes-more window x bits ys l n f j h = by-window (eqb (x / 4194304) window) ref
         w = eqb-true _ _ e
 
         by-offset : (d : Bool) → eqb j (x % 4194304) ≡ d
-            → held (pick (held bits (x % 4194304)) bits (marked bits (x % 4194304))) j
+            → held (pick (held bits (x % 4194304)) bits (withBit bits (x % 4194304))) j
             ≡ pick (eqb x (window * 4194304 + j)) true (among (window * 4194304 + j) ys)
         by-offset true g =
             let s : j ≡ x % 4194304 = eqb-true _ _ g in
             let t : x ≡ window * 4194304 + j = omega (arith, w, s) in
-            rw (k, eq-eqb _ _ t, s) (marked-same bits (x % 4194304) (omega arith) k)
+            rw (k, eq-eqb _ _ t, s) (with-bit-same bits (x % 4194304) (omega arith) k)
         by-offset false g =
             let s = eqb-false j (x % 4194304) g in
-            rw (k, ne-eqb x (window * 4194304 + j) (λ t. s (omega (arith, t)))) (marked-other bits (x % 4194304) j (omega arith) k s ∙ n j h)
+            rw (k, ne-eqb x (window * 4194304 + j) (λ t. s (omega (arith, t)))) (with-bit-other bits (x % 4194304) j (omega arith) k s ∙ n j h)
     by-window false e k =
         let s = eqb-false (x / 4194304) window e in
         rw (ne-eqb x (window * 4194304 + j) (λ t. s (omega (arith, t)))) (n j h)

@@ -10,8 +10,8 @@ use Rattle.types.specs.Rows.{widthOf}
 use Rattle.vectors.specs.Vectors.{shownNumbers}
 
 -- the elements of a part of type t, as they are shown
-unfoldable pub elementsOf : ℕ → List ℕ → List ℕ
-elementsOf t l = shownNumbers t (widthOf t) (length l / widthOf t) l
+unfoldable pub shownElements : ℕ → List ℕ → List ℕ
+shownElements t l = shownNumbers t (widthOf t) (length l / widthOf t) l
 
 -- the index of the first number that is no offset below a size; their count where each is one
 unfoldable pub firstOutside : ℕ → List ℕ → ℕ

@@ -30,15 +30,15 @@ few count most = pick (leb 65536 count) false (leb (count * count / 65536) (most
 unfoldable pub held : List ℕ → ℕ → Bool
 held bits y = eqb (getD bits (y / 32) 0 / 2 ^ (y % 32) % 2) 1
 
-unfoldable pub marked : List ℕ → ℕ → List ℕ
-marked bits y = set bits (y / 32) (getD bits (y / 32) 0 + 2 ^ (y % 32))
+unfoldable pub withBit : List ℕ → ℕ → List ℕ
+withBit bits y = set bits (y / 32) (getD bits (y / 32) 0 + 2 ^ (y % 32))
 
 -- whether an offset of a window is noted, and the bits after it is
 unfoldable pub noted : ℕ → ℕ → List ℕ → Bool
 noted window x bits = pick (eqb (x / 4194304) window) (held bits (x % 4194304)) false
 
 unfoldable pub noting : ℕ → ℕ → List ℕ → List ℕ
-noting window x bits = pick (eqb (x / 4194304) window) (pick (held bits (x % 4194304)) bits (marked bits (x % 4194304))) bits
+noting window x bits = pick (eqb (x / 4194304) window) (pick (held bits (x % 4194304)) bits (withBit bits (x % 4194304))) bits
 
 -- no number of a window that stands before an index stood earlier
 abbrev pub Fresh : ℕ → List ℕ → ℕ → Type 0

@@ -8,7 +8,7 @@ ghost use mir.Syntax.{w32};
 ghost use mir.Val.{ofZ};
 ghost use Rattle.types.specs.Rows.{widthOf};
 ghost use Rattle.words.specs.Lists.{among};
-ghost use Rattle.repeats.specs.Repeats.{elementsOf, firstOutside, firstRepeat};
+ghost use Rattle.repeats.specs.Repeats.{shownElements, firstOutside, firstRepeat};
 ghost use Rattle.repeats.specs.Windows.{earlier, few, UpTo, noted, noting, Bounded};
 
 // Notes an offset in a window's bits, where it is one of the window's; whether it was there already.
@@ -170,7 +170,7 @@ pub fn first_integer_repeat(values: &[i32]) -> usize
 // The 32 bits that an element of a part is shown by.
 fn element_at(part: &[u8], code: u8, w: u8, i: usize) -> u32
     requires { ⌜ (w ≡ widthOf code) × (w ≤ 4) × (i < length (now part) / w) ⌝ }
-    ensures { λ r. ⌜ r ≡ getD (elementsOf code (now (part .entry))) i 0 ⌝ }
+    ensures { λ r. ⌜ r ≡ getD (shownElements code (now (part .entry))) i 0 ⌝ }
 {
     let at = i * w as usize;
     let stop = at + w as usize;
@@ -179,7 +179,7 @@ fn element_at(part: &[u8], code: u8, w: u8, i: usize) -> u32
 
 // The index of a part's first element that is no offset below a size; their count where each is one.
 pub fn first_outside(part: &[u8], code: u8, size: u32) -> usize
-    ensures { λ r. ⌜ r ≡ firstOutside size (elementsOf code (now (part .entry))) ⌝ }
+    ensures { λ r. ⌜ r ≡ firstOutside size (shownElements code (now (part .entry))) ⌝ }
     ensures { λ r. ⌜ r ≤ length (now (part .entry)) / widthOf code ⌝ }
 {
     let row = types::row_of(code);
@@ -198,7 +198,7 @@ pub fn first_outside(part: &[u8], code: u8, size: u32) -> usize
 // Whether a number is among the first elements, looked at from the last of them backwards.
 fn element_stood(part: &[u8], code: u8, w: u8, count: usize, x: u32) -> bool
     requires { ⌜ (w ≡ widthOf code) × (w ≤ 4) × (count ≤ length (now part) / w) ⌝ }
-    ensures { λ r. ⌜ r ≡ among x (earlier count (elementsOf code (now (part .entry)))) ⌝ }
+    ensures { λ r. ⌜ r ≡ among x (earlier count (shownElements code (now (part .entry)))) ⌝ }
 {
     let mut left = count;
     while 0 < left {
@@ -213,7 +213,7 @@ fn element_stood(part: &[u8], code: u8, w: u8, count: usize, x: u32) -> bool
 // The first repeat among few elements: each is held against all before it.
 fn element_pairs(part: &[u8], code: u8, w: u8, count: usize) -> usize
     requires { ⌜ (w ≡ widthOf code) × (w ≤ 4) × (count ≡ length (now part) / w) ⌝ }
-    ensures { λ r. ⌜ r ≡ firstRepeat (elementsOf code (now (part .entry))) ⌝ }
+    ensures { λ r. ⌜ r ≡ firstRepeat (shownElements code (now (part .entry))) ⌝ }
 {
     let mut i = 0;
     while i < count {
@@ -229,7 +229,7 @@ fn element_pairs(part: &[u8], code: u8, w: u8, count: usize) -> usize
 // The largest element.
 fn most_element(part: &[u8], code: u8, w: u8, count: usize) -> u32
     requires { ⌜ (w ≡ widthOf code) × (w ≤ 4) × (count ≡ length (now part) / w) ⌝ }
-    ensures { λ r. ⌜ UpTo r (elementsOf code (now (part .entry))) ⌝ }
+    ensures { λ r. ⌜ UpTo r (shownElements code (now (part .entry))) ⌝ }
 {
     let mut most = 0;
     let mut i = 0;
@@ -243,7 +243,7 @@ fn most_element(part: &[u8], code: u8, w: u8, count: usize) -> u32
 // A window's sweep over the elements before a bound: the first that the window has noted already, or the bound.
 fn element_window(part: &[u8], code: u8, w: u8, bound: usize, window: u32) -> usize
     requires { ⌜ (w ≡ widthOf code) × (w ≤ 4) × (bound ≤ length (now part) / w) ⌝ }
-    ensures { λ r. ⌜ Bounded window bound (elementsOf code (now (part .entry))) r ⌝ }
+    ensures { λ r. ⌜ Bounded window bound (shownElements code (now (part .entry))) r ⌝ }
 {
     let mut bits = [0u32; 131072];
     let mut i = 0;
@@ -259,7 +259,7 @@ fn element_window(part: &[u8], code: u8, w: u8, bound: usize, window: u32) -> us
 // The same sweep over elements of type 3, the only ones of which many can differ: with the type known, the compiler reads each at once.
 fn long_window(part: &[u8], bound: usize, window: u32) -> usize
     requires { ⌜ bound ≤ length (now part) / 4 ⌝ }
-    ensures { λ r. ⌜ Bounded window bound (elementsOf 3 (now (part .entry))) r ⌝ }
+    ensures { λ r. ⌜ Bounded window bound (shownElements 3 (now (part .entry))) r ⌝ }
 {
     let mut bits = [0u32; 131072];
     let mut i = 0;
@@ -275,7 +275,7 @@ fn long_window(part: &[u8], bound: usize, window: u32) -> usize
 // A window's sweep, by type.
 fn part_window(part: &[u8], code: u8, w: u8, bound: usize, window: u32) -> usize
     requires { ⌜ (w ≡ widthOf code) × (w ≤ 4) × (bound ≤ length (now part) / w) ⌝ }
-    ensures { λ r. ⌜ Bounded window bound (elementsOf code (now (part .entry))) r ⌝ }
+    ensures { λ r. ⌜ Bounded window bound (shownElements code (now (part .entry))) r ⌝ }
 {
     if code == 3 {
         return long_window(part, bound, window);
@@ -286,8 +286,8 @@ fn part_window(part: &[u8], code: u8, w: u8, bound: usize, window: u32) -> usize
 // The first repeat among many elements: the bound that is left after the last window.
 fn element_windows(part: &[u8], code: u8, w: u8, count: usize, most: u32) -> usize
     requires { ⌜ (w ≡ widthOf code) × (w ≤ 4) × (count ≡ length (now part) / w) ⌝ }
-    requires { ⌜ UpTo most (elementsOf code (now part)) ⌝ }
-    ensures { λ r. ⌜ r ≡ firstRepeat (elementsOf code (now (part .entry))) ⌝ }
+    requires { ⌜ UpTo most (shownElements code (now part)) ⌝ }
+    ensures { λ r. ⌜ r ≡ firstRepeat (shownElements code (now (part .entry))) ⌝ }
 {
     let mut bound = count;
     let mut window = 0;
@@ -301,7 +301,7 @@ fn element_windows(part: &[u8], code: u8, w: u8, count: usize, most: u32) -> usi
 // The index of a part's first element that stood earlier; their count where none did. As with integers, the first 64 are looked at by a call of
 // itself.
 pub fn first_repeat(part: &[u8], code: u8) -> usize
-    ensures { λ r. ⌜ r ≡ firstRepeat (elementsOf code (now (part .entry))) ⌝ }
+    ensures { λ r. ⌜ r ≡ firstRepeat (shownElements code (now (part .entry))) ⌝ }
 {
     let row = types::row_of(code);
     let w = row.width;

@@ -16,7 +16,7 @@ use Rattle.types.specs.Rows.{widthOf}
 use Rattle.vectors.specs.Vectors.{unsound}
 use Rattle.vectors.specs.declared.Judged.{Judged}
 use Rattle.vectors.specs.declared.Judged.the-variants.{Sound}
-use Rattle.repeats.specs.Repeats.{elementsOf, firstOutside, repeatAfter, firstRepeat}
+use Rattle.repeats.specs.Repeats.{shownElements, firstOutside, repeatAfter, firstRepeat}
 use Rattle.repeats.proofs.Elements.{length-elements, elements-front}
 use Rattle.site.specs.Filters.{filters, filtered}
 
@@ -62,13 +62,13 @@ filters-verdict strings w at earlier (x ∷ xs) =
     by-outside false on = by-among (among x earlier) on
 
 -- the elements of a part, by their count and the two indices
-pub filtered-verdict : (s : List ℕ) (strings t w n k r : ℕ) → w ≡ widthOf t → n ≡ length s / w → k ≡ firstOutside strings (elementsOf t s)
-    → k ≤ length s / widthOf t → r ≡ firstRepeat (elementsOf t (take (k * w) s))
+pub filtered-verdict : (s : List ℕ) (strings t w n k r : ℕ) → w ≡ widthOf t → n ≡ length s / w → k ≡ firstOutside strings (shownElements t s)
+    → k ≤ length s / widthOf t → r ≡ firstRepeat (shownElements t (take (k * w) s))
     → filtered strings t s ≡ pick (ltb r k) (unsound 11 (r * w)) (pick (ltb k n) (unsound 8 (k * w)) Sound)
-unfolding filtered elementsOf firstRepeat
+unfolding filtered shownElements firstRepeat
 filtered-verdict s strings t w n k r ew en ek h er =
-    let xs = elementsOf t s in
+    let xs = shownElements t s in
     let l : length xs ≡ n = length-elements t s ∙ rw (← ew) (sym en) in
-    let f : elementsOf t (take (k * w) s) ≡ take k xs = rw ew (elements-front t k s h) in
+    let f : shownElements t (take (k * w) s) ≡ take k xs = rw ew (elements-front t k s h) in
     let q : r ≡ repeatAfter [] (take k xs) = er ∙ ap firstRepeat f in
     filters-verdict strings (widthOf t) 0 [] xs ∙ rw (← ek, ← q, l, ← ew, zero-add (r * w), zero-add (k * w))

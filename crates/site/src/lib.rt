@@ -50,7 +50,7 @@ fn past_elements(j: Judged, first: usize, stop: usize) -> Step
 }
 
 // An allele's bytes, each from 21 to 7E: sound, or 9 at the first that is not; places count from the part's start.
-pub fn judge_allele(part: &[u8]) -> Judged
+pub fn judge_allele_bytes(part: &[u8]) -> Judged
     ensures { λ r. ⌜ r ≡ alleleBytes 0 (now (part .entry)) ⌝ }
     ensures { λ r. ⌜ judgedInside (length (now (part .entry))) r ⌝ }
 {
@@ -95,7 +95,7 @@ pub fn allele_at(block: &[u8], at: usize) -> Step
             place: at,
         });
     }
-    let j = judge_allele(&block[first..stop]);
+    let j = judge_allele_bytes(&block[first..stop]);
     past_elements(j, first, stop)
 }
 

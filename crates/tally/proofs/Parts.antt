@@ -11,7 +11,7 @@ use borrow.Author.Tests.{eq-eqb, ne-eqb}
 use Rattle.words.specs.Pick.{pick}
 use Rattle.types.specs.Rows.{widthOf}
 use Rattle.genotypes.specs.declared.Gt.{Gt}
-use Rattle.calls.specs.Calls.{counted, counters, tally}
+use Rattle.calls.specs.Calls.{counted, counters, peopleTally}
 use Rattle.tally.specs.Tally.{callsOf, nobody}
 
 pub callsOf-none : (g : Gt) (people : ℕ) (s : List ℕ) → g .len ≡ 0 → callsOf g people s ≡ nobody people
@@ -34,7 +34,7 @@ part-rest s first n h =
 
 -- there are 65 counters, whatever is counted
 pub callsOf-length : (g : Gt) (people : ℕ) (s : List ℕ) → length (callsOf g people s .counts) ≡ 65
-unfolding callsOf counted tally counters
+unfolding callsOf counted peopleTally counters
 callsOf-length g people s = by-len (eqb (g .len) 0)
   where
     by-len : (b : Bool)

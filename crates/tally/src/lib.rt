@@ -45,7 +45,7 @@ pub fn calls_of(s: &[u8], gt: Gt, people: u32) -> Calls
     let row = types::row_of(code);
     let w = row.width as usize;
     let count = people as usize * len;
-    if values::has_room(first, count, w, s.len()) {
+    if values::elements_fit(first, count, w, s.len()) {
         let stop = first + count * w;
         return calls::count_calls(&s[first..stop], code, len);
     }

@@ -8,8 +8,8 @@ use Rattle.types.specs.declared.Use.{Use}
 use Rattle.types.specs.declared.Use.the-variants.{Id, Allele, Filter, Key, Length, Info, Format, Gt}
 
 -- integers of w bytes: FILTER, keys, true lengths, INFO and FORMAT values, GT
-abbrev pub integer : ℕ → Row
-integer w =
+abbrev pub integerRow : ℕ → Row
+integerRow w =
     record {
       width = w;
       id = false;
@@ -23,8 +23,8 @@ integer w =
     }
 
 -- floats: INFO and FORMAT values
-abbrev pub float : Row
-float =
+abbrev pub floatRow : Row
+floatRow =
     record {
       width = 4;
       id = false;
@@ -38,8 +38,8 @@ float =
     }
 
 -- text: ID, alleles, INFO and FORMAT values
-abbrev pub text : Row
-text =
+abbrev pub textRow : Row
+textRow =
     record {
       width = 1;
       id = true;
@@ -86,13 +86,13 @@ unused =
 abbrev pub rows : List Row
 rows =
     bare ∷
-    integer 1 ∷
-    integer 2 ∷
-    integer 4 ∷
+    integerRow 1 ∷
+    integerRow 2 ∷
+    integerRow 4 ∷
     unused ∷
-    float ∷
+    floatRow ∷
     unused ∷
-    text ∷
+    textRow ∷
     unused ∷
     unused ∷
     unused ∷

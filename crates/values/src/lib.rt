@@ -203,7 +203,7 @@ pub fn descriptor_at(block: &[u8], at: usize, role: Use) -> Descriptor
 }
 
 // Whether `count` elements of `w` bytes fit between two places. Divided, so that no product passes 64 bits.
-pub fn has_room(first: usize, count: usize, w: usize, end: usize) -> bool
+pub fn elements_fit(first: usize, count: usize, w: usize, end: usize) -> bool
     ensures { λ r. ⌜ r ≡ leb (first + count * w) end ⌝ }
 {
     if end < first {
@@ -229,7 +229,7 @@ pub fn value_at(block: &[u8], at: usize, role: Use, vectors: u32) -> Value
     let count = vectors as usize * len as usize;
     let row = types::row_of(code);
     let w = row.width as usize;
-    if has_room(first, count, w, end) {
+    if elements_fit(first, count, w, end) {
         return Value::Present {
             code,
             len,

@@ -17,7 +17,7 @@ use Rattle.types.specs.Elements.{kind, marked}
 use Rattle.types.specs.declared.Element.{Element}
 use Rattle.types.specs.declared.Element.the-variants.{Plain, Missing, End, Reserved}
 use Rattle.vectors.specs.Plain.{passed, allPassed, AllOn}
-use Rattle.vectors.specs.Vectors.{numbers, turned, vector, vectors, andThen}
+use Rattle.vectors.specs.Vectors.{numbers, elementTurn, vector, vectors, andThen}
 use Rattle.vectors.specs.declared.Judged.{Judged}
 use Rattle.vectors.specs.declared.Judged.the-variants.{Sound, Refused as Unsound}
 use Rattle.vectors.specs.declared.Turn.the-variants.{Bad, On}
@@ -36,7 +36,7 @@ and-pick true b = refl
 and-pick false b = refl
 
 -- a larger most takes no less
-pub on-more : (top most x : ℕ) (k : Element) → top ≤ most → turned top false k x ≡ On false → turned most false k x ≡ On false
+pub on-more : (top most x : ℕ) (k : Element) → top ≤ most → elementTurn top false k x ≡ On false → elementTurn most false k x ≡ On false
 on-more top most x Missing h e = refl
 on-more top most x End h e = e
 on-more top most x Reserved h e = e
@@ -52,7 +52,7 @@ all-more top most t (x ∷ xs) h a = (on-more top most x (kind t x) h (a .0), al
 
 -- what passes outside the marks of a type goes on
 abbrev pub Passing : ℕ → ℕ → ℕ → ℕ → ℕ → Type 0
-Passing t low high missing most = (x : ℕ) → passed low high missing most x ≡ true → turned most false (kind t x) x ≡ On false
+Passing t low high missing most = (x : ℕ) → passed low high missing most x ≡ true → elementTurn most false (kind t x) x ≡ On false
 
 pub all-on : (t low high missing most : ℕ) → Passing t low high missing most → (xs : List ℕ)
     → allPassed low high missing most xs ≡ true → AllOn most t xs
@@ -67,21 +67,21 @@ all-on t low high missing most p (x ∷ xs) e = by-test (passed low high missing
 
 -- marks in a row, and text's one mark
 marked-on : (missing last most x : ℕ) → missing < last → passed (missing + 1) last missing most x ≡ true
-    → turned most false (marked missing last x) x ≡ On false
+    → elementTurn most false (marked missing last x) x ≡ On false
 unfolding passed marked
 marked-on missing last most x p h = by-most (ltb most x) refl h
   where
     by-most : (b : Bool) → ltb most x ≡ b → pick b (eqb x missing) (pick (ltb x (missing + 1)) true (ltb last x)) ≡ true
-        → turned most false (marked missing last x) x ≡ On false
+        → elementTurn most false (marked missing last x) x ≡ On false
     by-most true q g =
         let e : x ≡ missing = eqb-true _ _ g in
         rw (le-ltb x missing (omega arith), le-ltb last x (omega arith), eq-eqb x missing e)
     by-most false q g = by-low (ltb x (missing + 1)) refl g
       where
-        by-low : (b : Bool) → ltb x (missing + 1) ≡ b → pick b true (ltb last x) ≡ true → turned most false (marked missing last x) x ≡ On false
+        by-low : (b : Bool) → ltb x (missing + 1) ≡ b → pick b true (ltb last x) ≡ true → elementTurn most false (marked missing last x) x ≡ On false
         by-low true r f = by-mark (ltb x missing) refl
           where
-            by-mark : (b : Bool) → ltb x missing ≡ b → turned most false (marked missing last x) x ≡ On false
+            by-mark : (b : Bool) → ltb x missing ≡ b → elementTurn most false (marked missing last x) x ≡ On false
             by-mark true s = rw (s, q)
             by-mark false s =
                 let u : x < missing + 1 = ltb-true _ _ r in
@@ -112,14 +112,14 @@ unfolding kind passed
 on-7 most x h = by-most (ltb most x) refl h
   where
     by-most : (b : Bool) → ltb most x ≡ b → pick b (eqb x 0) (pick (ltb x 0) true (ltb 0 x)) ≡ true
-        → turned most false (pick (eqb x 0) End Plain) x ≡ On false
+        → elementTurn most false (pick (eqb x 0) End Plain) x ≡ On false
     by-most true q g =
         let e : x ≡ 0 = eqb-true _ _ g in
         let r : most < x = ltb-true _ _ q in
         absurd (omega arith)
     by-most false q g = by-low (ltb x 0) refl g
       where
-        by-low : (b : Bool) → ltb x 0 ≡ b → pick b true (ltb 0 x) ≡ true → turned most false (pick (eqb x 0) End Plain) x ≡ On false
+        by-low : (b : Bool) → ltb x 0 ≡ b → pick b true (ltb 0 x) ≡ true → elementTurn most false (pick (eqb x 0) End Plain) x ≡ On false
         by-low true r f = let u : x < 0 = ltb-true _ _ r in absurd (omega arith)
         by-low false r f =
             let u : 0 < x = ltb-true _ _ f in

@@ -10,11 +10,11 @@ use lib.ListN.{drop}
 use lib.Seq.{drop-drop}
 use Rattle.words.specs.Words.{number}
 use Rattle.types.specs.Elements.{kind}
-use Rattle.vectors.specs.Vectors.{numbers, turned, follow, vector, vectors, andThen}
+use Rattle.vectors.specs.Vectors.{numbers, elementTurn, follow, vector, vectors, andThen}
 
 pub vector-turn : (s : List ℕ) (most t w n at : ℕ) (e : Bool) → 0 < n
     → vector most t w at e (numbers w n (drop at s))
-    ≡ follow at (turned most e (kind t (number w (drop at s))) (number w (drop at s)))
+    ≡ follow at (elementTurn most e (kind t (number w (drop at s))) (number w (drop at s)))
     (λ b. vector most t w (at + w) b (numbers w (n - 1) (drop (at + w) s)))
 unfolding vector numbers
 vector-turn s most t w zero at e h = absurd (omega arith)

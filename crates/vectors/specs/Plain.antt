@@ -6,7 +6,7 @@ use mathlib.Core.Bool.{Bool, true, false}
 use lib.Dec.{ltb, eqb}
 use Rattle.words.specs.Pick.{pick}
 use Rattle.types.specs.Elements.{kind}
-use Rattle.vectors.specs.Vectors.{turned}
+use Rattle.vectors.specs.Vectors.{elementTurn}
 use Rattle.vectors.specs.declared.Turn.the-variants.{On}
 
 -- a number up to the most and outside the marks from `low` to `high`, or the missing mark
@@ -20,4 +20,4 @@ allPassed low high missing most (x ∷ xs) = pick (passed low high missing most 
 -- each number is an element of type t that is not refused and ends nothing
 abbrev pub AllOn : ℕ → ℕ → List ℕ → Type 0
 AllOn most t [] = Unit {0}
-AllOn most t (x ∷ xs) = (turned most false (kind t x) x ≡ On false) × AllOn most t xs
+AllOn most t (x ∷ xs) = (elementTurn most false (kind t x) x ≡ On false) × AllOn most t xs

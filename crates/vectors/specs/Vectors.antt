@@ -37,11 +37,11 @@ shownNumbers t w (suc n) l = shown t (number w l) ∷ shownNumbers t w n (drop w
 
 -- an element whose number is x, after an end of vector or not: refused, 9 where it is reserved or stands after an end of vector,
 -- 10 where it is plain and above the most that the vector may hold; else on, with whether the vector has ended
-abbrev pub turned : ℕ → Bool → Element → ℕ → Turn
-turned most ended Reserved x = Bad 9
-turned most ended End x = On true
-turned most ended Missing x = pick ended (Bad 9) (On false)
-turned most ended Plain x = pick ended (Bad 9) (pick (ltb most x) (Bad 10) (On false))
+abbrev pub elementTurn : ℕ → Bool → Element → ℕ → Turn
+elementTurn most ended Reserved x = Bad 9
+elementTurn most ended End x = On true
+elementTurn most ended Missing x = pick ended (Bad 9) (On false)
+elementTurn most ended Plain x = pick ended (Bad 9) (pick (ltb most x) (Bad 10) (On false))
 
 -- after an element at a place: stopped there, or on to the rest
 abbrev pub follow : ℕ → Turn → (Bool → Judged) → Judged
@@ -55,7 +55,7 @@ stopped at (On ended) = Sound
 -- the elements of one vector of type t and width w, given as numbers; `at` is the first one's place
 unfoldable pub vector : ℕ → ℕ → ℕ → ℕ → Bool → List ℕ → Judged
 vector most t w at ended [] = Sound
-vector most t w at ended (x ∷ xs) = follow at (turned most ended (kind t x) x) (λ e. vector most t w (at + w) e xs)
+vector most t w at ended (x ∷ xs) = follow at (elementTurn most ended (kind t x) x) (λ e. vector most t w (at + w) e xs)
 
 -- the first refusal of the two
 abbrev pub andThen : Judged → Judged → Judged

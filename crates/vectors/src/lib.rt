@@ -11,7 +11,7 @@ ghost use Rattle.types.specs.Elements.{kind};
 ghost use Rattle.values.specs.Answers.{valueInside};
 ghost use Rattle.vectors.specs.Sound.{highest, codeMost, mostOf, sound};
 ghost use Rattle.vectors.specs.Plain.{passed, allPassed, AllOn};
-ghost use Rattle.vectors.specs.Vectors.{numbers, turned, stopped, vector, vectors, judged, judgedInside};
+ghost use Rattle.vectors.specs.Vectors.{numbers, elementTurn, stopped, vector, vectors, judged, judgedInside};
 use types::Element;
 use types::Use;
 use values::Refusal;
@@ -31,7 +31,7 @@ pub enum Turn {
 
 // One element's turn, after an end of vector or not: refused with 9 or 10, or passed, with whether the vector has ended.
 pub fn judge_one(code: u8, most: u32, ended: bool, raw: u32) -> Turn
-    ensures { λ r. ⌜ r ≡ turned most ended (kind code raw) raw ⌝ }
+    ensures { λ r. ⌜ r ≡ elementTurn most ended (kind code raw) raw ⌝ }
 {
     let k = types::element_of(code, raw);
     match k {

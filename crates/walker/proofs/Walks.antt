@@ -33,7 +33,7 @@ use Rattle.fetch.specs.Fetch.{fieldOf, found}
 use Rattle.fetch.specs.declared.Kind.the-variants.{Filter, Info as InfoKind}
 use Rattle.fetch.specs.declared.Found.{Found as Fetched}
 use Rattle.fetch.specs.declared.Found.the-variants.{Field, Refused as NoField}
-use Rattle.walker.specs.Walk.{asPair, pairIn, pairAt, afterPair, nextAt, walkedTo, afterFilter, opened}
+use Rattle.walker.specs.Walk.{asPair, pairIn, pairAt, afterPair, nextAt, walkedTo, firstAfter, opened}
 use Rattle.walker.specs.declared.Opening.the-variants.{First}
 use Rattle.walker.specs.declared.Pair.{Pair}
 use Rattle.walker.specs.declared.Pair.the-variants.{End}
@@ -108,7 +108,7 @@ found-at f s t g q n r h i a b p c =
     found-in f InfoKind n s t g h i ∙ rw (a, drop-on block idAt q b, p, drop-on block idAt r d)
 
 -- opening leads to where FILTER ends
-step-after : (border : ℕ) (f : Fetched) {q : ℕ} → fieldStep f ≡ At q → afterFilter border f ≡ First q
+step-after : (border : ℕ) (f : Fetched) {q : ℕ} → fieldStep f ≡ At q → firstAfter border f ≡ First q
 step-after border (NoField r) h = cc
 step-after border (Field key t n place stop) h = let e = same h in rw e
   where

@@ -45,13 +45,13 @@ abbrev pub nextAt : List ℕ → ℕ → ℕ
 nextAt s at = afterPair (pairAt s at) at
 
 -- opening: reading's refusals, or the place of the first pair, which is where FILTER ends
-abbrev pub afterFilter : ℕ → Fetched → Opening
-afterFilter border (NoField r) = First border
-afterFilter border (Field key t n place stop) = First stop
+abbrev pub firstAfter : ℕ → Fetched → Opening
+firstAfter border (NoField r) = First border
+firstAfter border (Field key t n place stop) = First stop
 
 abbrev pub openedBy : List ℕ → Reading → Opening
 openedBy s (Unread r) = Refused r
-openedBy s (Accepted t g) = afterFilter (t .border) (fieldOf Filter 0 t s)
+openedBy s (Accepted t g) = firstAfter (t .border) (fieldOf Filter 0 t s)
 
 unfoldable pub opened : Facts → List ℕ → Opening
 opened f s = openedBy s (reading f s)

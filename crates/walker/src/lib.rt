@@ -2,7 +2,7 @@
 // The functions over the struct are thin; the work is done by `pair_at` on the slice and a number. Rests on fetch, for a field at a place and for opening.
 ghost use mathlib.Core.Path.{_≡_};
 ghost use lib.ListN.{drop};
-ghost use Rattle.walker.specs.Walk.{asPair, pairAt, pairIn, afterPair, nextAt, afterFilter, opened, walker, movedOn, advanced};
+ghost use Rattle.walker.specs.Walk.{asPair, pairAt, pairIn, afterPair, nextAt, firstAfter, opened, walker, movedOn, advanced};
 use fetch::Found;
 use fetch::Kind;
 use fixed::Facts;
@@ -99,8 +99,8 @@ pub fn next_at(s: &[u8], at: usize) -> usize
 }
 
 // The place where FILTER ends; the end of the block where there is none.
-fn after_filter(border: usize, f: Found) -> Opening
-    ensures { λ r. ⌜ r ≡ afterFilter border f ⌝ }
+fn first_after(border: usize, f: Found) -> Opening
+    ensures { λ r. ⌜ r ≡ firstAfter border f ⌝ }
 {
     match f {
         Found::Field {
@@ -122,7 +122,7 @@ pub fn opening_of(s: &[u8], facts: Facts) -> Opening
     let Reading::Accepted { site, gt: _ } = r else {
         return Opening::Refused(record::reading_refusal(r));
     };
-    after_filter(site.border, fetch::field_of(s, site, Kind::Filter, 0))
+    first_after(site.border, fetch::field_of(s, site, Kind::Filter, 0))
 }
 
 // The walker of a lent record that stands at a place.

@@ -10,7 +10,7 @@ use mir.Syntax.{w32}
 use mir.Val.{ofZ}
 use Rattle.words.proofs.Sign.{bits-back}
 use Rattle.types.specs.Elements.{kind}
-use Rattle.vectors.specs.Vectors.{turned, vector}
+use Rattle.vectors.specs.Vectors.{elementTurn, vector}
 use Rattle.build_given.proofs.Turns.{vector-turn-bits, vector-end}
 use borrow.Author.Needs.{needs}
 use Rattle.build_given.proofs.integers_in.Statement.{statement}
@@ -59,7 +59,7 @@ returns c =
     let a = c .before .before .before .before .before .before .before .before .args in
     let z = getD (a .part .now) (l .i) (pos 0) in
     let b : c .before .before .before .before .bits .result ≡ ofZ w32 z = c .before .before .before .before .bits .ensures ∙ bits-back z (c .before .before .before .before .before .bits-arg .given) in
-    let j : c .before .before .before .judge-one .result ≡ turned (a .most) (l .ended) (kind 3 (ofZ w32 z)) (ofZ w32 z) = c .before .before .before .judge-one .ensures ∙ rw b in
+    let j : c .before .before .before .judge-one .result ≡ elementTurn (a .most) (l .ended) (kind 3 (ofZ w32 z)) (ofZ w32 z) = c .before .before .before .judge-one .ensures ∙ rw b in
     let t = vector-turn-bits (a .part .now) (a .most) 3 (l .ended) (l .i) (c .before .before .before .before .before .before .loop-test .taken) in
     let o = c .before .enum-told .given .1 in
     rw (c .stop-at .ensures, l .inv .0, t, ← j, o)
@@ -76,7 +76,7 @@ loop-again c =
     let a = c .before .before .before .before .before .before .before .before .args in
     let z = getD (a .part .now) (l .i) (pos 0) in
     let b : c .before .before .before .before .bits .result ≡ ofZ w32 z = c .before .before .before .before .bits .ensures ∙ bits-back z (c .before .before .before .before .before .bits-arg .given) in
-    let j : c .before .before .before .judge-one .result ≡ turned (a .most) (l .ended) (kind 3 (ofZ w32 z)) (ofZ w32 z) = c .before .before .before .judge-one .ensures ∙ rw b in
+    let j : c .before .before .before .judge-one .result ≡ elementTurn (a .most) (l .ended) (kind 3 (ofZ w32 z)) (ofZ w32 z) = c .before .before .before .judge-one .ensures ∙ rw b in
     let t = vector-turn-bits (a .part .now) (a .most) 3 (l .ended) (l .i) (c .before .before .before .before .before .before .loop-test .taken) in
     (l .inv .0 ∙ t ∙ rw (← j, c .before .t .given .1), omega arith)
 

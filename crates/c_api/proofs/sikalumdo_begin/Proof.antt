@@ -4,7 +4,7 @@ use lib.ListN.{length}
 use mir.Syntax.{w32}
 use mir.Val.{ofZ}
 use Rattle.words.proofs.Sign.{back}
-use Rattle.c_api.specs.Given.{factsOf}
+use Rattle.c_api.specs.Given.{factsGiven}
 use Rattle.build.specs.declared.Builder.{Builder}
 use Rattle.build.specs.Turns.{begun, afterBegin}
 use Rattle.c_state.specs.Kept.{turnAnswer, turnNumbers}
@@ -39,9 +39,9 @@ returns c =
     let told = rw (back (a .chrom) (f .chrom), back (a .pos) (f .pos), back (a .rlen) (f .rlen)) at (c .before .before .before .before .before .before .begin .ensures .0) in
     let written = rw (back (a .chrom) (f .chrom), back (a .pos) (f .pos), back (a .rlen) (f .rlen)) at (c .before .before .before .before .before .before .begin .ensures .1) in
     let st = c .before .before .before .before .before .before .before .before .state-of .ensures in
-    let e = told ∙ ap (λ (x : Builder). begun x (length (a .buf .now)) (factsOf (a .strings) (a .contigs) (a .people) (a .gt)) (ofZ w32 (a .chrom)) (ofZ w32 (a .pos)) (ofZ w32 (a .rlen)) (a .qual)) st in (
+    let e = told ∙ ap (λ (x : Builder). begun x (length (a .buf .now)) (factsGiven (a .strings) (a .contigs) (a .people) (a .gt)) (ofZ w32 (a .chrom)) (ofZ w32 (a .pos)) (ofZ w32 (a .rlen)) (a .qual)) st in (
       c .before .before .keep .ensures .0 ∙ ap turnAnswer e,
-      (c .before .before .keep .ensures .1 ∙ ap (turnNumbers _) e, written ∙ ap (λ (x : Builder). afterBegin x (a .buf .now) (factsOf (a .strings) (a .contigs) (a .people) (a .gt)) (ofZ w32 (a .chrom)) (ofZ w32 (a .pos)) (ofZ w32 (a .rlen)) (a .qual)) st),
+      (c .before .before .keep .ensures .1 ∙ ap (turnNumbers _) e, written ∙ ap (λ (x : Builder). afterBegin x (a .buf .now) (factsGiven (a .strings) (a .contigs) (a .people) (a .gt)) (ofZ w32 (a .chrom)) (ofZ w32 (a .pos)) (ofZ w32 (a .rlen)) (a .qual)) st),
     )
 
 pub sikalumdo-begin-spec : {M : Type 1} → statement M

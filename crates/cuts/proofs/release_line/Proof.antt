@@ -4,7 +4,7 @@ use native.Mathlib.Omega.{arith}
 use lib.ListN.{length-set}
 use borrow.Author.Tests.{lt-ltb, le-ltb}
 use Rattle.frames.specs.declared.Answer.the-variants.{Text}
-use Rattle.cuts.specs.Release.{released, releasedIn}
+use Rattle.cuts.specs.Release.{releaseSaid, releaseSaidIn}
 use Rattle.cuts.proofs.Releases.{length-release, release-stored}
 use borrow.Author.Needs.{needs}
 use Rattle.cuts.proofs.release_line.Statement.{statement}
@@ -14,7 +14,7 @@ use Rattle.cuts.proofs.release_line.Lts as lts
 use Rattle.capitals.proofs.put_eight.Reads as put-eight-reads
 
 returns : tie.Need-returns
-unfolding released releasedIn
+unfolding releaseSaid releaseSaidIn
 returns c =
     let h = lt-ltb _ _ (c .if1 .taken) in
     (rw h, (tt, rw h))
@@ -39,7 +39,7 @@ same-length c =
     rw length-set (omega (arith, c .before .before .put-eight4 .kept, c .before .before .before .before .before .before .put-eight3 .kept, c .before .before .before .before .before .before .before .before .before .before .put-eight2 .kept, c .before .before .before .before .before .before .before .before .before .before .before .before .before .before .put-eight .kept))
 
 returns-2 : tie.Need-returns-2
-unfolding released releasedIn
+unfolding releaseSaid releaseSaidIn
 returns-2 c =
     let a = c .before .before .before .before .before .before .before .before .before .before .before .before .before .before .before .before .before .before .args in
     let h = le-ltb _ _ (c .before .before .before .before .before .before .before .before .before .before .before .before .before .before .before .before .if1 .left) in

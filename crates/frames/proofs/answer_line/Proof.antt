@@ -4,7 +4,7 @@ use native.Mathlib.Omega.{arith}
 use lib.Seq.{length-take-le}
 use borrow.Author.Tests.{lt-ltb, le-ltb}
 use Rattle.hexadecimal.specs.Hexadecimal.{frameOf}
-use Rattle.frames.specs.Frames.{answer, answered, decoded}
+use Rattle.frames.specs.Frames.{lineSaid, lineSaidIn, decoded}
 use Rattle.frames.specs.declared.Answer.the-variants.{Text}
 use Rattle.frames.proofs.Answers.{frame-bad, frame-short, frame-fits, answer-bytes, answer-bad}
 use borrow.Author.Needs.{needs}
@@ -17,7 +17,7 @@ use Rattle.frames.proofs.put_record.Reads as put-record-reads
 use Rattle.hexadecimal.proofs.decode.Reads as decode-reads
 
 returns : tie.Need-returns
-unfolding answer answered decoded
+unfolding lineSaid lineSaidIn decoded
 returns c =
     let h = lt-ltb _ _ (c .if1 .taken) in
     (rw h, (tt, (rw h, rw h)))
@@ -57,7 +57,7 @@ same-length-2 : tie.Need-same-length-2
 same-length-2 c = search needs
 
 returns-2 : tie.Need-returns-2
-unfolding answer answered decoded
+unfolding lineSaid lineSaidIn decoded
 returns-2 c =
     let a = c .before .before .before .before .before .before .before .before .before .before .before .before .before .before .before .before .args in
     let h = le-ltb _ _ (c .before .before .before .before .before .before .before .before .before .before .before .before .if1 .left) in
@@ -77,7 +77,7 @@ same-length-4 : tie.Need-same-length-4
 same-length-4 c = search needs
 
 returns-3 : tie.Need-returns-3
-unfolding answer answered decoded
+unfolding lineSaid lineSaidIn decoded
 returns-3 c =
     let a = c .before .before .before .before .before .before .before .before .before .before .before .before .before .before .args in
     let h = le-ltb _ _ (c .before .before .before .before .before .before .before .before .before .before .if1 .left) in
@@ -93,7 +93,7 @@ same-length-5 : tie.Need-same-length-5
 same-length-5 c = search needs
 
 returns-4 : tie.Need-returns-4
-unfolding answer answered decoded
+unfolding lineSaid lineSaidIn decoded
 returns-4 c =
     let a = c .before .before .before .before .before .before .before .before .before .before .args in
     let h = le-ltb _ _ (c .before .before .before .before .before .before .if1 .left) in

@@ -2,7 +2,7 @@
 use mathlib.Core.Path.{sym, _∙_}
 use native.Mathlib.Omega.{arith}
 use borrow.Author.Tests.{lt-ltb, le-ltb}
-use Rattle.hexadecimal.proofs.Digits.{length-paired}
+use Rattle.hexadecimal.proofs.Digits.{length-line-bytes}
 use Rattle.hexadecimal.proofs.Frames.{frame-long, frame-odd, frame-other, frame-good}
 use borrow.Author.Needs.{needs}
 use Rattle.hexadecimal.proofs.decode.Statement.{statement}
@@ -26,7 +26,7 @@ returns-3 c =
     let d = sym (t .before .all-digits .ensures) ∙ t .if3 .taken in
     let e = frame-good _ (t .before .before .before .before .before .if1 .left) (t .before .before .before .before .if2 .left) d in
     let h = lt-ltb _ _ (c .if4 .taken) in
-    (rw (e, length-paired, h), (tt, rw (e, length-paired, h)))
+    (rw (e, length-line-bytes, h), (tt, rw (e, length-line-bytes, h)))
 
 store-requires : tie.Need-store-requires
 store-requires c κs =
@@ -43,7 +43,7 @@ returns-4 c =
     let e = frame-good _ (t .before .before .before .before .before .if1 .left) (t .before .before .before .before .if2 .left) d in
     let room = c .before .before .before .before .before .if4 .left in
     let h = le-ltb _ _ room in
-    (rw (e, length-paired, h), (room, rw (e, length-paired, h) (c .before .before .store .ensures)))
+    (rw (e, length-line-bytes, h), (room, rw (e, length-line-bytes, h) (c .before .before .store .ensures)))
 
 returns-5 : tie.Need-returns-5
 returns-5 c = let e = frame-other _ (sym (c .before .all-digits .ensures) ∙ c .if3 .left) in (rw e, (tt, rw e))

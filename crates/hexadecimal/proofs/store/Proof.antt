@@ -5,7 +5,7 @@ use native.Mathlib.Omega.{arith}
 use native.Mathlib.Numerals.{add-one}
 use lib.ListN.{length, drop, length-set, drop-of-length-le}
 use lib.Seq.{sets}
-use Rattle.hexadecimal.specs.Hexadecimal.{paired}
+use Rattle.hexadecimal.specs.Hexadecimal.{lineBytes}
 use Rattle.hexadecimal.proofs.Digits.{paired-turn}
 use borrow.Author.Needs.{needs}
 use Rattle.hexadecimal.proofs.store.Statement.{statement}
@@ -13,7 +13,7 @@ use Rattle.hexadecimal.proofs.store.Tie as tie
 
 abbrev Inv-loop : tie.InvT-loop
 Inv-loop table line n buf₀ i₀ o₀ buf i o =
-    (sets buf₀ 0 (paired line) ≡ sets buf o (paired (drop i line))) × (i ≡ o * 2) × (i ≤ length line) × (length buf ≡ length buf₀)
+    (sets buf₀ 0 (lineBytes line) ≡ sets buf o (lineBytes (drop i line))) × (i ≡ o * 2) × (i ≤ length line) × (length buf ≡ length buf₀)
 
 abbrev μ-loop : tie.MeasureT-loop
 μ-loop table line n buf₀ i₀ o₀ buf i o = length line - i
@@ -46,7 +46,7 @@ same-length : tie.Need-same-length Inv-loop μ-loop
 same-length c = search needs
 
 returns : tie.Need-returns Inv-loop μ-loop
-unfolding paired
+unfolding lineBytes
 returns c = rw (c .before .loop .inv .0, drop-of-length-le _ (c .loop-test .left))
 
 pub store-spec : {M : Type 1} → statement M

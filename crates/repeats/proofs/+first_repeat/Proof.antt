@@ -4,7 +4,7 @@ use native.Mathlib.Omega.{arith}
 use lib.ListN.{length, take}
 use lib.Seq.{length-take-le}
 use Rattle.types.specs.Rows.{widthOf}
-use Rattle.repeats.specs.Repeats.{elementsOf, firstRepeat}
+use Rattle.repeats.specs.Repeats.{shownElements, firstRepeat}
 use Rattle.repeats.proofs.Elements.{length-elements, elements-front, front-room, front-less}
 use Rattle.repeats.proofs.Lists.{repeat-early}
 use borrow.Author.Needs.{needs}
@@ -230,8 +230,8 @@ first-repeat-returns-2 t c =
     let v = a .part .now in
     let o = c .before .before .before .before .before .row-of .ensures .1 .0 in
     let h : 64 ≤ length v / widthOf (a .code) = rw (← o) (omega (arith, c .before .before .before .before .over .ensures .0, c .before .before .before .if1 .left)) in
-    let e : c .before .first-repeat .result ≡ firstRepeat (take 64 (elementsOf (a .code) v)) = c .before .first-repeat .ensures ∙ rw o (ap firstRepeat (elements-front (a .code) 64 v h)) in
-    e ∙ repeat-early 64 (elementsOf (a .code) v) (rw (length-elements (a .code) v) h) (rw e at (c .if2 .taken))
+    let e : c .before .first-repeat .result ≡ firstRepeat (take 64 (shownElements (a .code) v)) = c .before .first-repeat .ensures ∙ rw o (ap firstRepeat (elements-front (a .code) 64 v h)) in
+    e ∙ repeat-early 64 (shownElements (a .code) v) (rw (length-elements (a .code) v) h) (rw e at (c .if2 .taken))
 
 first-repeat-most-element-requires : (t : ℕ) → first-repeat-lts.Need-most-element-requires (
   row-of-reads.Asked,

@@ -6,7 +6,7 @@ use Prim.Native.Nat.{ℕ, _-_, _<_, _≤_}
 use native.Mathlib.Omega.{arith}
 use lib.ListN.{length}
 use Rattle.words.specs.Lists.{among}
-use Rattle.repeats.specs.Repeats.{elementsOf}
+use Rattle.repeats.specs.Repeats.{shownElements}
 use Rattle.repeats.specs.Windows.{earlier, stood}
 use Rattle.repeats.proofs.Elements.{length-elements}
 use Rattle.repeats.proofs.Lists.{found, onward}
@@ -20,7 +20,7 @@ use Rattle.repeats.proofs.element_stood.Reads as element-stood-reads
 
 abbrev Inv-loop : tie.InvT-loop
 Inv-loop part code w count i₀ i =
-    ((j : ℕ) → j < i → stood (elementsOf code part) j ≡ false) × (i ≤ count)
+    ((j : ℕ) → j < i → stood (shownElements code part) j ≡ false) × (i ≤ count)
 
 abbrev μ-loop : tie.MeasureT-loop
 μ-loop part code w count i₀ i =
@@ -41,9 +41,9 @@ unfolding stood
 returns c =
     let l = c .before .before .before .before .loop in
     let a = c .before .before .before .before .before .before .args in
-    let n : length (elementsOf (a .code) (a .part .now)) ≡ a .count = length-elements (a .code) (a .part .now) ∙ rw (← c .before .before .before .before .before .before .pre .0) (sym (c .before .before .before .before .before .before .pre .2)) in
-    let m : c .before .element-stood .result ≡ stood (elementsOf (a .code) (a .part .now)) (l .i) = c .before .element-stood .ensures ∙ ap (λ x. among x (earlier (l .i) (elementsOf (a .code) (a .part .now)))) (c .before .before .element-at .ensures) in
-    found (elementsOf (a .code) (a .part .now)) (l .i) (omega (arith, n)) (inr (sym m ∙ c .if1 .taken)) (l .inv .0)
+    let n : length (shownElements (a .code) (a .part .now)) ≡ a .count = length-elements (a .code) (a .part .now) ∙ rw (← c .before .before .before .before .before .before .pre .0) (sym (c .before .before .before .before .before .before .pre .2)) in
+    let m : c .before .element-stood .result ≡ stood (shownElements (a .code) (a .part .now)) (l .i) = c .before .element-stood .ensures ∙ ap (λ x. among x (earlier (l .i) (shownElements (a .code) (a .part .now)))) (c .before .before .element-at .ensures) in
+    found (shownElements (a .code) (a .part .now)) (l .i) (omega (arith, n)) (inr (sym m ∙ c .if1 .taken)) (l .inv .0)
 
 add-i : tie.Need-add-i Inv-loop μ-loop
 add-i c = search needs
@@ -56,15 +56,15 @@ unfolding stood
 loop-again c =
     let l = c .before .before .before .before .loop in
     let a = c .before .before .before .before .before .before .args in
-    let m : c .before .element-stood .result ≡ stood (elementsOf (a .code) (a .part .now)) (l .i) = c .before .element-stood .ensures ∙ ap (λ x. among x (earlier (l .i) (elementsOf (a .code) (a .part .now)))) (c .before .before .element-at .ensures) in
-    (onward (λ j. stood (elementsOf (a .code) (a .part .now)) j ≡ false) (l .i) (l .inv .0) (sym m ∙ c .if1 .left), omega arith)
+    let m : c .before .element-stood .result ≡ stood (shownElements (a .code) (a .part .now)) (l .i) = c .before .element-stood .ensures ∙ ap (λ x. among x (earlier (l .i) (shownElements (a .code) (a .part .now)))) (c .before .before .element-at .ensures) in
+    (onward (λ j. stood (shownElements (a .code) (a .part .now)) j ≡ false) (l .i) (l .inv .0) (sym m ∙ c .if1 .left), omega arith)
 
 returns-2 : tie.Need-returns-2 Inv-loop μ-loop
 returns-2 c =
     let l = c .before .loop in
     let a = c .before .before .before .args in
-    let n : length (elementsOf (a .code) (a .part .now)) ≡ a .count = length-elements (a .code) (a .part .now) ∙ rw (← c .before .before .before .pre .0) (sym (c .before .before .before .pre .2)) in
-    found (elementsOf (a .code) (a .part .now)) (l .i) (omega (arith, n)) (inl (omega (arith, n))) (l .inv .0)
+    let n : length (shownElements (a .code) (a .part .now)) ≡ a .count = length-elements (a .code) (a .part .now) ∙ rw (← c .before .before .before .pre .0) (sym (c .before .before .before .pre .2)) in
+    found (shownElements (a .code) (a .part .now)) (l .i) (omega (arith, n)) (inl (omega (arith, n))) (l .inv .0)
 
 pub element-pairs-spec : {M : Type 1} → statement M
 element-pairs-spec =

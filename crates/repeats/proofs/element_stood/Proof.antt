@@ -4,7 +4,7 @@ use Prim.Native.Nat.{_-_, _≤_}
 use native.Mathlib.Omega.{arith}
 use borrow.Author.Tests.{eq-eqb, ne-eqb}
 use Rattle.words.specs.Lists.{among}
-use Rattle.repeats.specs.Repeats.{elementsOf}
+use Rattle.repeats.specs.Repeats.{shownElements}
 use Rattle.repeats.specs.Windows.{earlier}
 use Rattle.repeats.proofs.Lists.{among-turn}
 use borrow.Author.Needs.{needs}
@@ -16,7 +16,7 @@ use Rattle.repeats.proofs.element_at.Reads as element-at-reads
 
 abbrev Inv-loop : tie.InvT-loop
 Inv-loop part code w count x left₀ left =
-    (among x (earlier count (elementsOf code part)) ≡ among x (earlier left (elementsOf code part))) × (left ≤ count)
+    (among x (earlier count (shownElements code part)) ≡ among x (earlier left (shownElements code part))) × (left ≤ count)
 
 abbrev μ-loop : tie.MeasureT-loop
 μ-loop part code w count x left₀ left =
@@ -37,7 +37,7 @@ returns : tie.Need-returns Inv-loop μ-loop
 returns c =
     let l = c .before .before .before .loop in
     let a = c .before .before .before .before .before .args in
-    let t = among-turn (a .x) (l .left) (elementsOf (a .code) (a .part .now)) (c .before .before .loop-test .taken) in
+    let t = among-turn (a .x) (l .left) (shownElements (a .code) (a .part .now)) (c .before .before .loop-test .taken) in
     sym (l .inv .0 ∙ rw (t, ← c .before .element-at .ensures, eq-eqb _ _ (c .if1 .taken)))
 
 loop-less : tie.Need-loop-less Inv-loop μ-loop
@@ -47,7 +47,7 @@ loop-again : tie.Need-loop-again Inv-loop μ-loop
 loop-again c =
     let l = c .before .before .before .loop in
     let a = c .before .before .before .before .before .args in
-    let t = among-turn (a .x) (l .left) (elementsOf (a .code) (a .part .now)) (c .before .before .loop-test .taken) in
+    let t = among-turn (a .x) (l .left) (shownElements (a .code) (a .part .now)) (c .before .before .loop-test .taken) in
     (l .inv .0 ∙ rw (t, ← c .before .element-at .ensures, ne-eqb _ _ (c .if1 .left)), omega arith)
 
 returns-2 : tie.Need-returns-2 Inv-loop μ-loop

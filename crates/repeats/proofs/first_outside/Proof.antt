@@ -5,7 +5,7 @@ use native.Mathlib.Omega.{arith}
 use native.Mathlib.Nat.{zero-add}
 use lib.ListN.{length, drop, getD}
 use Rattle.words.specs.Words.{outside}
-use Rattle.repeats.specs.Repeats.{elementsOf, firstOutside}
+use Rattle.repeats.specs.Repeats.{shownElements, firstOutside}
 use Rattle.repeats.proofs.Elements.{length-elements}
 use Rattle.repeats.proofs.Lists.{outside-turn, outside-end}
 use borrow.Author.Needs.{needs}
@@ -20,7 +20,7 @@ use Rattle.words.proofs.over.Reads as over-reads
 
 abbrev Inv-loop : tie.InvT-loop
 Inv-loop part code size w count i₀ i =
-    (firstOutside size (elementsOf code part) ≡ i + firstOutside size (drop i (elementsOf code part))) × (i ≤ count)
+    (firstOutside size (shownElements code part) ≡ i + firstOutside size (drop i (shownElements code part))) × (i ≤ count)
 
 abbrev μ-loop : tie.MeasureT-loop
 μ-loop part code size w count i₀ i =
@@ -51,9 +51,9 @@ returns : tie.Need-returns Inv-loop μ-loop
 returns c =
     let l = c .before .before .before .before .loop in
     let a = c .before .before .before .before .before .before .before .before .args in
-    let n : length (elementsOf (a .code) (a .part .now)) ≡ c .before .before .before .before .before .over .result = length-elements (a .code) (a .part .now) ∙ rw (← c .before .before .before .before .before .before .row-of .ensures .1 .0) (sym (c .before .before .before .before .before .over .ensures .0)) in
-    let t = outside-turn (elementsOf (a .code) (a .part .now)) (a .size) (l .i) (omega (arith, n)) in
-    let o : c .before .is-outside .result ≡ outside (a .size) (getD (elementsOf (a .code) (a .part .now)) (l .i) 0) = c .before .is-outside .ensures ∙ ap (outside (a .size)) (c .before .before .element-at .ensures) in
+    let n : length (shownElements (a .code) (a .part .now)) ≡ c .before .before .before .before .before .over .result = length-elements (a .code) (a .part .now) ∙ rw (← c .before .before .before .before .before .before .row-of .ensures .1 .0) (sym (c .before .before .before .before .before .over .ensures .0)) in
+    let t = outside-turn (shownElements (a .code) (a .part .now)) (a .size) (l .i) (omega (arith, n)) in
+    let o : c .before .is-outside .result ≡ outside (a .size) (getD (shownElements (a .code) (a .part .now)) (l .i) 0) = c .before .is-outside .ensures ∙ ap (outside (a .size)) (c .before .before .element-at .ensures) in
     (sym (l .inv .0 ∙ rw (t, ← o, c .if1 .taken)), omega (arith, n, length-elements (a .code) (a .part .now)))
 
 add-i : tie.Need-add-i Inv-loop μ-loop
@@ -66,17 +66,17 @@ loop-again : tie.Need-loop-again Inv-loop μ-loop
 loop-again c =
     let l = c .before .before .before .before .loop in
     let a = c .before .before .before .before .before .before .before .before .args in
-    let n : length (elementsOf (a .code) (a .part .now)) ≡ c .before .before .before .before .before .over .result = length-elements (a .code) (a .part .now) ∙ rw (← c .before .before .before .before .before .before .row-of .ensures .1 .0) (sym (c .before .before .before .before .before .over .ensures .0)) in
-    let t = outside-turn (elementsOf (a .code) (a .part .now)) (a .size) (l .i) (omega (arith, n)) in
-    let o : c .before .is-outside .result ≡ outside (a .size) (getD (elementsOf (a .code) (a .part .now)) (l .i) 0) = c .before .is-outside .ensures ∙ ap (outside (a .size)) (c .before .before .element-at .ensures) in
+    let n : length (shownElements (a .code) (a .part .now)) ≡ c .before .before .before .before .before .over .result = length-elements (a .code) (a .part .now) ∙ rw (← c .before .before .before .before .before .before .row-of .ensures .1 .0) (sym (c .before .before .before .before .before .over .ensures .0)) in
+    let t = outside-turn (shownElements (a .code) (a .part .now)) (a .size) (l .i) (omega (arith, n)) in
+    let o : c .before .is-outside .result ≡ outside (a .size) (getD (shownElements (a .code) (a .part .now)) (l .i) 0) = c .before .is-outside .ensures ∙ ap (outside (a .size)) (c .before .before .element-at .ensures) in
     (l .inv .0 ∙ rw (t, ← o, c .if1 .left), omega arith)
 
 returns-2 : tie.Need-returns-2 Inv-loop μ-loop
 returns-2 c =
     let l = c .before .loop in
     let a = c .before .before .before .before .before .args in
-    let n : length (elementsOf (a .code) (a .part .now)) ≡ c .before .before .over .result = length-elements (a .code) (a .part .now) ∙ rw (← c .before .before .before .row-of .ensures .1 .0) (sym (c .before .before .over .ensures .0)) in
-    (sym (l .inv .0 ∙ outside-end (elementsOf (a .code) (a .part .now)) (a .size) (l .i) (omega (arith, n))), omega (arith, n, length-elements (a .code) (a .part .now)))
+    let n : length (shownElements (a .code) (a .part .now)) ≡ c .before .before .over .result = length-elements (a .code) (a .part .now) ∙ rw (← c .before .before .before .row-of .ensures .1 .0) (sym (c .before .before .over .ensures .0)) in
+    (sym (l .inv .0 ∙ outside-end (shownElements (a .code) (a .part .now)) (a .size) (l .i) (omega (arith, n))), omega (arith, n, length-elements (a .code) (a .part .now)))
 
 pub first-outside-spec : {M : Type 1} → statement M
 first-outside-spec =

@@ -3,7 +3,7 @@ use mathlib.Core.Path.{_≡_, _∙_}
 use Prim.Native.Nat.{ℕ, _-_, _/_, _<_, _≤_}
 use native.Mathlib.Omega.{arith}
 use lib.ListN.{length, getD}
-use Rattle.repeats.specs.Repeats.{elementsOf}
+use Rattle.repeats.specs.Repeats.{shownElements}
 use Rattle.repeats.proofs.Elements.{length-elements}
 use Rattle.repeats.proofs.Lists.{onward}
 use borrow.Author.Needs.{needs}
@@ -16,7 +16,7 @@ use Rattle.repeats.proofs.larger.Reads as larger-reads
 
 abbrev Inv-loop : tie.InvT-loop
 Inv-loop part code w count most₀ i₀ most i =
-    ((j : ℕ) → j < i → getD (elementsOf code part) j 0 ≤ most) × (i ≤ count)
+    ((j : ℕ) → j < i → getD (shownElements code part) j 0 ≤ most) × (i ≤ count)
 
 abbrev μ-loop : tie.MeasureT-loop
 μ-loop part code w count most₀ i₀ most i =
@@ -43,13 +43,13 @@ loop-again c =
     let l = c .before .before .before .loop in
     let a = c .before .before .before .before .before .args in
     let m = c .larger .ensures in
-    (onward (λ j. getD (elementsOf (a .code) (a .part .now)) j 0 ≤ c .larger .result) (l .i) (λ j h. let k = l .inv .0 j h in omega (arith, k, m)) (rw (← c .before .element-at .ensures) (m .1)), omega arith)
+    (onward (λ j. getD (shownElements (a .code) (a .part .now)) j 0 ≤ c .larger .result) (l .i) (λ j h. let k = l .inv .0 j h in omega (arith, k, m)) (rw (← c .before .element-at .ensures) (m .1)), omega arith)
 
 returns : tie.Need-returns Inv-loop μ-loop
 returns c =
     let l = c .before .loop in
     let a = c .before .before .before .args in
-    let n : length (elementsOf (a .code) (a .part .now)) ≡ length (a .part .now) / a .w = length-elements (a .code) (a .part .now) ∙ rw (← c .before .before .before .pre .0) in
+    let n : length (shownElements (a .code) (a .part .now)) ≡ length (a .part .now) / a .w = length-elements (a .code) (a .part .now) ∙ rw (← c .before .before .before .pre .0) in
     λ i h. l .inv .0 i (omega (arith, h, n))
 
 pub most-element-spec : {M : Type 1} → statement M

@@ -4,7 +4,7 @@ use Prim.Native.Nat.{_/_, _%_, _^_}
 use native.Mathlib.Omega.{arith}
 use lib.ListN.{getD, length-set}
 use borrow.Author.Tests.{eq-eqb, ne-eqb}
-use Rattle.repeats.specs.Windows.{noted, noting, held, marked}
+use Rattle.repeats.specs.Windows.{noted, noting, held, withBit}
 use Rattle.repeats.proofs.Bits.{one-bit, set-below}
 use borrow.Author.Needs.{needs}
 use Rattle.repeats.proofs.note.Statement.{statement}
@@ -57,7 +57,7 @@ same-length : tie.Need-same-length
 same-length c = search needs
 
 returns-3 : tie.Need-returns-3
-unfolding noted noting held marked
+unfolding noted noting held withBit
 returns-3 c =
     let a = c .before .before .before .args in
     let o = one-bit (a .x % 4194304 % 32) (omega arith) in (

@@ -10,7 +10,7 @@ use Rattle.site.proofs.allele_at.Statement.{statement}
 use Rattle.site.proofs.allele_at.Tie as tie
 use Rattle.site.proofs.allele_at.Reads as reads
 use Rattle.site.proofs.allele_at.Lts as lts
-use Rattle.site.proofs.judge_allele.Reads as judge-allele-reads
+use Rattle.site.proofs.judge_allele_bytes.Reads as judge-allele-bytes-reads
 use Rattle.site.proofs.past_elements.Reads as past-elements-reads
 use Rattle.site.proofs.past_value.Reads as past-value-reads
 use Rattle.values.proofs.value_at.Reads as value-at-reads
@@ -37,29 +37,29 @@ unfolding allele
 returns-2 c =
     (simp (← c .before .before .before .before .value-at .ensures .0, c .before .before .v .given .1, eq-eqb _ _ (c .if1 .taken)), tt)
 
-sub-judge-allele : tie.Need-sub-judge-allele
-sub-judge-allele c =
+sub-judge-allele-bytes : tie.Need-sub-judge-allele-bytes
+sub-judge-allele-bytes c =
     let i = rw (c .before .before .v .given .1) at (c .before .before .before .before .value-at .ensures .1) in
     omega (arith, i)
 
-part-judge-allele-start : tie.Need-part-judge-allele-start
-part-judge-allele-start c =
+part-judge-allele-bytes-start : tie.Need-part-judge-allele-bytes-start
+part-judge-allele-bytes-start c =
     let i = rw (c .before .before .v .given .1) at (c .before .before .before .before .value-at .ensures .1) in
     omega (arith, i)
 
-part-judge-allele-end : tie.Need-part-judge-allele-end
-part-judge-allele-end c =
+part-judge-allele-bytes-end : tie.Need-part-judge-allele-bytes-end
+part-judge-allele-bytes-end c =
     let i = rw (c .before .before .v .given .1) at (c .before .before .before .before .value-at .ensures .1) in
     omega (arith, i)
 
-judge-allele-requires : tie.Need-judge-allele-requires
-judge-allele-requires c κs = search needs
+judge-allele-bytes-requires : tie.Need-judge-allele-bytes-requires
+judge-allele-bytes-requires c κs = search needs
 
 past-elements-requires : tie.Need-past-elements-requires
 past-elements-requires c κs =
     let i = rw (c .before .before .before .before .v .given .1) at (c .before .before .before .before .before .before .value-at .ensures .1) in
     let d = c .before .before .before .before .v .given .0 .1 .1 in
-    (i .1, rw (length-part (c .before .before .before .before .before .before .before .before .args .block .now) (d .0) (d .1 .0) (i .1) (i .2)) at (c .judge-allele .ensures .1))
+    (i .1, rw (length-part (c .before .before .before .before .before .before .before .before .args .block .now) (d .0) (d .1 .0) (i .1) (i .2)) at (c .judge-allele-bytes .ensures .1))
 
 returns-3 : tie.Need-returns-3
 unfolding allele
@@ -72,10 +72,10 @@ returns-3 c =
         c .before .before .before .before .before .v .given .1,
         ne-eqb _ _ (c .before .before .before .if1 .left),
         drop-on (a .block .now) (a .at) (d .0) (omega (arith, i)),
-        ← c .before .judge-allele .ensures .0,
+        ← c .before .judge-allele-bytes .ensures .0,
         c .past-elements .ensures,
       ),
-      rw (c .past-elements .ensures) (judged-inside (c .before .judge-allele .result) (a .at) (d .0) (d .1 .0) (length (a .block .now)) (omega (arith, i)) (i .2)),
+      rw (c .past-elements .ensures) (judged-inside (c .before .judge-allele-bytes .result) (a .at) (d .0) (d .1 .0) (length (a .block .now)) (omega (arith, i)) (i .2)),
     )
 
 pub allele-at-spec : {M : Type 1} → statement M
@@ -88,9 +88,9 @@ allele-at-spec =
     past-value-requires
     returns
     returns-2
-    sub-judge-allele
-    part-judge-allele-start
-    part-judge-allele-end
-    judge-allele-requires
+    sub-judge-allele-bytes
+    part-judge-allele-bytes-start
+    part-judge-allele-bytes-end
+    judge-allele-bytes-requires
     past-elements-requires
     returns-3)

@@ -15,7 +15,7 @@ use Rattle.tally.proofs.calls_of.Lts as lts
 use Rattle.calls.proofs.count_calls.Reads as count-calls-reads
 use Rattle.tally.proofs.without_all.Reads as without-all-reads
 use Rattle.types.proofs.row_of.Reads as row-of-reads
-use Rattle.values.proofs.has_room.Reads as has-room-reads
+use Rattle.values.proofs.elements_fit.Reads as elements-fit-reads
 
 cast-len : tie.Need-cast-len
 cast-len c = search needs
@@ -40,21 +40,21 @@ mul-count c =
     let q = prod {a = a .people} {b = a .gt .len} (2 ^ 32) (2 ^ 32) (omega arith) (omega arith) (omega arith) in
     omega arith
 
-has-room-requires : tie.Need-has-room-requires
-has-room-requires c κs = search needs
+elements-fit-requires : tie.Need-elements-fit-requires
+elements-fit-requires c κs = search needs
 
 mul-stop : tie.Need-mul-stop
 mul-stop c =
     let a = c .before .before .before .before .before .before .before .args in
     let w = c .before .before .before .row-of .result .width in
-    let h : a .gt .first + a .people * a .gt .len * w ≤ length (a .s .now) = leb-true _ _ (sym (c .before .has-room .ensures) ∙ c .if2 .taken) in
+    let h : a .gt .first + a .people * a .gt .len * w ≤ length (a .s .now) = leb-true _ _ (sym (c .before .elements-fit .ensures) ∙ c .if2 .taken) in
     omega arith
 
 add-stop : tie.Need-add-stop
 add-stop c =
     let a = c .before .before .before .before .before .before .before .args in
     let w = c .before .before .before .row-of .result .width in
-    let h : a .gt .first + a .people * a .gt .len * w ≤ length (a .s .now) = leb-true _ _ (sym (c .before .has-room .ensures) ∙ c .if2 .taken) in
+    let h : a .gt .first + a .people * a .gt .len * w ≤ length (a .s .now) = leb-true _ _ (sym (c .before .elements-fit .ensures) ∙ c .if2 .taken) in
     omega arith
 
 sub-count-calls : tie.Need-sub-count-calls
@@ -67,7 +67,7 @@ part-count-calls-end : tie.Need-part-count-calls-end
 part-count-calls-end c =
     let a = c .before .before .before .before .before .before .before .args in
     let w = c .before .before .before .row-of .result .width in
-    let h : a .gt .first + a .people * a .gt .len * w ≤ length (a .s .now) = leb-true _ _ (sym (c .before .has-room .ensures) ∙ c .if2 .taken) in
+    let h : a .gt .first + a .people * a .gt .len * w ≤ length (a .s .now) = leb-true _ _ (sym (c .before .elements-fit .ensures) ∙ c .if2 .taken) in
     omega arith
 
 count-calls-requires : tie.Need-count-calls-requires
@@ -105,7 +105,7 @@ returns-4 : tie.Need-returns-4
 returns-4 c =
     let a = c .before .before .before .before .before .before .before .before .before .before .args in
     let w = c .before .before .before .before .before .before .row-of .result .width in
-    let h : length (a .s .now) < a .gt .first + a .people * a .gt .len * w = leb-false _ _ (sym (c .before .before .before .before .has-room .ensures) ∙ c .before .before .before .if2 .left) in
+    let h : length (a .s .now) < a .gt .first + a .people * a .gt .len * w = leb-false _ _ (sym (c .before .before .before .before .elements-fit .ensures) ∙ c .before .before .before .if2 .left) in
     rw (
       c .count-calls3 .ensures,
       callsOf-part (a .gt) (a .people) (a .s .now) (c .before .before .before .before .before .before .before .if1 .left),
@@ -123,7 +123,7 @@ calls-of-spec =
     row-of-requires
     cast-w
     mul-count
-    has-room-requires
+    elements-fit-requires
     mul-stop
     add-stop
     sub-count-calls

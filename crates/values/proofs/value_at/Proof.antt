@@ -15,7 +15,7 @@ use Rattle.values.proofs.value_at.Lts as lts
 use Rattle.types.proofs.row_of.Reads as row-of-reads
 use Rattle.values.proofs.descriptor_at.Reads as descriptor-at-reads
 use Rattle.values.proofs.descriptor_refusal.Reads as descriptor-refusal-reads
-use Rattle.values.proofs.has_room.Reads as has-room-reads
+use Rattle.values.proofs.elements_fit.Reads as elements-fit-reads
 
 descriptor-at-requires : tie.Need-descriptor-at-requires
 descriptor-at-requires c κs = search needs
@@ -51,15 +51,15 @@ row-of-requires c κs = search needs
 cast-w : tie.Need-cast-w
 cast-w c = search needs
 
-has-room-requires : tie.Need-has-room-requires
-has-room-requires c κs = tt
+elements-fit-requires : tie.Need-elements-fit-requires
+elements-fit-requires c κs = tt
 
 mul-t17 : tie.Need-mul-t17
 mul-t17 c =
     let a = c .before .before .before .before .before .before .before .before .before .args in
     let d = c .before .before .before .before .before .d .given .0 in
     let w = c .before .before .before .row-of .result .width in
-    let h : d .1 .1 .0 + a .vectors * d .1 .0 * w ≤ length (a .block .now) = leb-true _ _ (sym (c .before .has-room .ensures) ∙ c .if1 .taken) in
+    let h : d .1 .1 .0 + a .vectors * d .1 .0 * w ≤ length (a .block .now) = leb-true _ _ (sym (c .before .elements-fit .ensures) ∙ c .if1 .taken) in
     omega arith
 
 add-t18 : tie.Need-add-t18
@@ -67,7 +67,7 @@ add-t18 c =
     let a = c .before .before .before .before .before .before .before .before .before .args in
     let d = c .before .before .before .before .before .d .given .0 in
     let w = c .before .before .before .row-of .result .width in
-    let h : d .1 .1 .0 + a .vectors * d .1 .0 * w ≤ length (a .block .now) = leb-true _ _ (sym (c .before .has-room .ensures) ∙ c .if1 .taken) in
+    let h : d .1 .1 .0 + a .vectors * d .1 .0 * w ≤ length (a .block .now) = leb-true _ _ (sym (c .before .elements-fit .ensures) ∙ c .if1 .taken) in
     omega arith
 
 returns-2 : tie.Need-returns-2
@@ -75,14 +75,14 @@ returns-2 c =
     let a = c .before .before .before .before .before .before .before .before .before .args in
     let d = c .before .before .before .before .before .d .given .0 in
     let w = c .before .before .before .row-of .result .width in
-    let h : d .1 .1 .0 + a .vectors * d .1 .0 * w ≤ length (a .block .now) = leb-true _ _ (sym (c .before .has-room .ensures) ∙ c .if1 .taken) in
+    let h : d .1 .1 .0 + a .vectors * d .1 .0 * w ≤ length (a .block .now) = leb-true _ _ (sym (c .before .elements-fit .ensures) ∙ c .if1 .taken) in
     let i = rw (c .before .before .before .before .before .d .given .1) at (c .before .before .before .before .before .before .before .descriptor-at .ensures .1) in (
       simp (
         present-at (a .vectors) (a .at) (a .role) (a .block .now) (omega (arith, i)),
         ← c .before .before .before .before .before .before .before .descriptor-at .ensures .0,
         c .before .before .before .before .before .d .given .1,
         ← c .before .before .before .row-of .ensures .1 .0,
-        ← c .before .has-room .ensures,
+        ← c .before .elements-fit .ensures,
         c .if1 .taken,
       ),
       (i .0, omega arith, h),
@@ -99,7 +99,7 @@ returns-3 c =
         ← c .before .before .before .before .before .before .before .descriptor-at .ensures .0,
         c .before .before .before .before .before .d .given .1,
         ← c .before .before .before .row-of .ensures .1 .0,
-        ← c .before .has-room .ensures,
+        ← c .before .elements-fit .ensures,
         c .if1 .left,
       ),
       tt,
@@ -118,7 +118,7 @@ value-at-spec =
     mul-count
     row-of-requires
     cast-w
-    has-room-requires
+    elements-fit-requires
     mul-t17
     add-t18
     returns-2

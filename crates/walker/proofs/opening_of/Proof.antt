@@ -8,7 +8,7 @@ use Rattle.walker.proofs.opening_of.Lts as lts
 use Rattle.fetch.proofs.field_of.Reads as field-of-reads
 use Rattle.record.proofs.read.Reads as read-reads
 use Rattle.record.proofs.reading_refusal.Reads as reading-refusal-reads
-use Rattle.walker.proofs.after_filter.Reads as after-filter-reads
+use Rattle.walker.proofs.first_after.Reads as first-after-reads
 
 read-requires : tie.Need-read-requires
 read-requires c κs = search needs
@@ -31,8 +31,8 @@ returns c =
 field-of-requires : tie.Need-field-of-requires
 field-of-requires c κs = search needs
 
-after-filter-requires : tie.Need-after-filter-requires
-after-filter-requires c κs = search needs
+first-after-requires : tie.Need-first-after-requires
+first-after-requires c κs = search needs
 
 -- fill: bd689f24
 returns-2 : tie.Need-returns-2
@@ -42,7 +42,7 @@ returns-2 c =
       ← c .before .before .before .before .before .read .ensures .0,
       c .before .before .before .r .given .1,
       ← c .before .field-of .ensures .0,
-      c .after-filter .ensures,
+      c .first-after .ensures,
     )
 
 pub opening-of-spec : {M : Type 1} → statement M
@@ -55,5 +55,5 @@ opening-of-spec =
     reading-refusal-requires
     returns
     field-of-requires
-    after-filter-requires
+    first-after-requires
     returns-2)

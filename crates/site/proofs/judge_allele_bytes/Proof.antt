@@ -1,4 +1,4 @@
--- `site::judge_allele` meets its contract. The loop's invariant: the bytes are judged as those that are left.
+-- `site::judge_allele_bytes` meets its contract. The loop's invariant: the bytes are judged as those that are left.
 use mathlib.Core.Path.{_≡_, _∙_}
 use Prim.Native.Nat.{_-_, _≤_}
 use native.Mathlib.Omega.{arith}
@@ -7,10 +7,10 @@ use borrow.Author.Tests.{lt-ltb, le-ltb}
 use Rattle.site.specs.Alleles.{alleleBytes}
 use Rattle.site.proofs.Turns.{alleleBytes-turn, alleleBytes-end}
 use borrow.Author.Needs.{needs}
-use Rattle.site.proofs.judge_allele.Statement.{statement}
-use Rattle.site.proofs.judge_allele.Tie as tie
-use Rattle.site.proofs.judge_allele.Reads as reads
-use Rattle.site.proofs.judge_allele.Lts as lts
+use Rattle.site.proofs.judge_allele_bytes.Statement.{statement}
+use Rattle.site.proofs.judge_allele_bytes.Tie as tie
+use Rattle.site.proofs.judge_allele_bytes.Reads as reads
+use Rattle.site.proofs.judge_allele_bytes.Lts as lts
 
 abbrev Inv-loop : tie.InvT-loop
 Inv-loop part at₀ at = (alleleBytes 0 part ≡ alleleBytes at (drop at part)) × (at ≤ length part)
@@ -50,8 +50,8 @@ returns-3 c =
     let l = c .before .loop in
     (rw (l .inv .0, alleleBytes-end (c .before .before .args .part .now) (l .at) (c .loop-test .left)), tt)
 
-pub judge-allele-spec : {M : Type 1} → statement M
-judge-allele-spec =
+pub judge-allele-bytes-spec : {M : Type 1} → statement M
+judge-allele-bytes-spec =
     tie.close
     (tie.spec
     Inv-loop

@@ -1,30 +1,30 @@
--- `c_api::kind_of` meets its contract.
+-- `c_api::kind_given` meets its contract.
 use borrow.Author.Tests.{eq-eqb, ne-eqb}
-use Rattle.c_api.specs.Given.{kindOf}
-use Rattle.c_api.proofs.kind_of.Statement.{statement}
-use Rattle.c_api.proofs.kind_of.Tie as tie
-use Rattle.c_api.proofs.kind_of.Reads as reads
-use Rattle.c_api.proofs.kind_of.Lts as lts
+use Rattle.c_api.specs.Given.{kindGiven}
+use Rattle.c_api.proofs.kind_given.Statement.{statement}
+use Rattle.c_api.proofs.kind_given.Tie as tie
+use Rattle.c_api.proofs.kind_given.Reads as reads
+use Rattle.c_api.proofs.kind_given.Lts as lts
 
 -- fill: eaadfe61
 returns : tie.Need-returns
-unfolding kindOf
+unfolding kindGiven
 returns c = simp (eq-eqb _ _ (c .if1 .taken))
 
 -- fill: 31729425
 returns-2 : tie.Need-returns-2
-unfolding kindOf
+unfolding kindGiven
 returns-2 c = simp (ne-eqb _ _ (c .before .if1 .left), eq-eqb _ _ (c .if2 .taken))
 
 -- fill: 0c7abf29
 returns-3 : tie.Need-returns-3
-unfolding kindOf
+unfolding kindGiven
 returns-3 c =
     simp (ne-eqb _ _ (c .before .before .if1 .left), ne-eqb _ _ (c .before .if2 .left), eq-eqb _ _ (c .if3 .taken))
 
 -- fill: e91fceac
 returns-4 : tie.Need-returns-4
-unfolding kindOf
+unfolding kindGiven
 returns-4 c =
     simp (
       ne-eqb _ _ (c .before .before .before .if1 .left),
@@ -35,7 +35,7 @@ returns-4 c =
 
 -- fill: c8ba6914
 returns-5 : tie.Need-returns-5
-unfolding kindOf
+unfolding kindGiven
 returns-5 c =
     simp (
       ne-eqb _ _ (c .before .before .before .if1 .left),
@@ -44,5 +44,5 @@ returns-5 c =
       ne-eqb _ _ (c .if4 .left),
     )
 
-pub kind-of-spec : {M : Type 1} → statement M
-kind-of-spec = tie.close (tie.spec returns returns-2 returns-3 returns-4 returns-5)
+pub kind-given-spec : {M : Type 1} → statement M
+kind-given-spec = tie.close (tie.spec returns returns-2 returns-3 returns-4 returns-5)
