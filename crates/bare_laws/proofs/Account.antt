@@ -19,12 +19,13 @@ use Rattle.values.specs.declared.Integer.the-variants.{One, Refused as NoIntege
 use Rattle.values.specs.declared.Value.{Value}
 use Rattle.values.specs.declared.Value.the-variants.{Present, Refused as NoValue}
 use Rattle.fixed.specs.Layout.{idAt}
-use Rattle.fixed.specs.declared.Facts.{Facts}
+use Rattle.facts.specs.declared.Facts.{Facts}
 use Rattle.fixed.specs.declared.Site.{Site}
 use Rattle.fixed.proofs.Fits.{Fits}
 use Rattle.genotypes.specs.declared.Gt.{Gt}
 use Rattle.record.specs.Reading.{reading}
-use Rattle.record.specs.Shown.{kindOf, elementsOf}
+use Rattle.shown.specs.Shown.{kindOf}
+use Rattle.vectors.specs.Vectors.{elementsOf}
 use Rattle.record.specs.declared.Reading.the-variants.{Accepted}
 use Rattle.record.proofs.Accepted.{accepted-fits}
 use Rattle.fetch.specs.Fields.{valueField, pairField, alone, paired, fieldAt}

@@ -17,7 +17,7 @@ use Rattle.types.specs.declared.Use.the-variants.{Id as IdUse, Allele as Allele
 use Rattle.values.specs.Values.{present}
 use Rattle.values.specs.declared.Value.{Value}
 use Rattle.values.specs.declared.Value.the-variants.{Present, Refused as NoValue}
-use Rattle.fixed.specs.declared.Facts.{Facts}
+use Rattle.facts.specs.declared.Facts.{Facts}
 use Rattle.fixed.specs.declared.Site.{Site}
 use Rattle.genotypes.specs.Formats.{formats, gtNow, gtAt, noGt}
 use Rattle.genotypes.specs.declared.Gt.{Gt}
@@ -27,7 +27,8 @@ use Rattle.record.specs.declared.Reading.{Reading}
 use Rattle.record.specs.declared.Reading.the-variants.{Accepted, Refused as Unread}
 use Rattle.record.proofs.Accepted.{accepted}
 use Rattle.fetch.specs.Fields.{valueField, alone, paired, fieldAt}
-use Rattle.fetch.specs.Passing.{countOf, blockEnd}
+use Rattle.fetch.specs.Engine.{blockEnd}
+use Rattle.fetch.specs.Account.{countOf}
 use Rattle.fetch.specs.Fetch.{foundIn, found, fetched}
 use Rattle.fetch.specs.declared.Kind.{Kind}
 use Rattle.fetch.specs.declared.Kind.the-variants.{Id, Allele, Filter, Info, Format}

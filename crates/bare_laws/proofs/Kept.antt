@@ -16,7 +16,7 @@ use Rattle.values.specs.declared.Integer.the-variants.{One, Refused as NoIntege
 use Rattle.values.specs.declared.Value.{Value}
 use Rattle.values.specs.declared.Value.the-variants.{Present, Refused as NoValue}
 use Rattle.fixed.specs.Layout.{idAt}
-use Rattle.fixed.specs.declared.Facts.{Facts}
+use Rattle.facts.specs.declared.Facts.{Facts}
 use Rattle.fixed.specs.declared.Site.{Site}
 use Rattle.fixed.proofs.Fits.{Fits}
 use Rattle.fetch.specs.Account.{siteKinds}

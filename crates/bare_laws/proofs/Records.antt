@@ -14,7 +14,7 @@ use Rattle.values.specs.declared.Integer.the-variants.{One, Refused as NoIntege
 use Rattle.values.specs.declared.Value.{Value}
 use Rattle.values.specs.declared.Value.the-variants.{Present, Refused as NoValue}
 use Rattle.fixed.specs.Layout.{indivAt, chromAt, posAt, rlenAt, qualAt, countsAt, peopleAt, idAt, field}
-use Rattle.fixed.specs.declared.Facts.{Facts}
+use Rattle.facts.specs.declared.Facts.{Facts}
 use Rattle.fixed.specs.declared.Site.{Site}
 use Rattle.fixed.specs.Fixed.{fixed}
 use Rattle.fixed.specs.declared.Fixed.the-variants.{Site as Front}

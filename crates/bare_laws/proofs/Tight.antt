@@ -12,20 +12,21 @@ use Rattle.types.specs.Rows.{rowOf, widthOf, allowed}
 use Rattle.types.specs.declared.Use.{Use}
 use Rattle.types.specs.declared.Use.the-variants.{Id, Allele, Filter, Key, Info, Format}
 use Rattle.fixed.specs.Layout.{idAt, mostBytes}
-use Rattle.fixed.specs.declared.Facts.{Facts}
+use Rattle.facts.specs.declared.Facts.{Facts}
 use Rattle.fixed.specs.declared.Site.{Site}
 use Rattle.fixed.specs.Fixed.{fixed}
 use Rattle.fixed.specs.declared.Fixed.the-variants.{Site as Front}
 use Rattle.fixed.proofs.Fits.{fits-fixed}
 use Rattle.genotypes.specs.declared.Gt.{Gt}
 use Rattle.record.specs.Reading.{reading}
-use Rattle.record.specs.Shown.{Shown, Kind, integers, text, Pair, Field}
+use Rattle.shown.specs.Shown.{Shown, Kind, integers, text, Pair, Field}
 use Rattle.record.specs.declared.Reading.the-variants.{Accepted}
 use Rattle.record.proofs.Accepted.{accepted}
 use Rattle.encode.specs.Encode.{integerBytes, descriptorBytes, valueBytes, elementsBytes}
-use Rattle.build_append.specs.Values.{writtenAs, givenBytes, pairBytes}
+use Rattle.shown.specs.Values.{writtenAs, givenBytes, pairBytes}
 use Rattle.build_rules.specs.Values.{givenAs}
-use Rattle.build_laws.specs.Records.{joined, textBytes, infoBytes, formatBytes, siteBytes, genotypeBytes, recordBytes, All, KeepsAllele, KeepsInfo, KeepsFields, Keeps}
+use Rattle.build_laws.specs.Records.{All, KeepsAllele, KeepsInfo, KeepsFields, Keeps}
+use Rattle.shown.specs.Records.{joined, textBytes, infoBytes, formatBytes, siteBytes, genotypeBytes, recordBytes}
 use Rattle.build_laws.specs.Runs.{gives}
 use Rattle.build_laws.specs.Builds.{Tight}
 use Rattle.build_laws.proofs.Values.{written-type, one-vector, present-given, drop-front, integer-bytes, allowed-info}

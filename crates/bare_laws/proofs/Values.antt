@@ -22,10 +22,9 @@ use Rattle.values.specs.declared.Integer.the-variants.{One, Refused as NoIntege
 use Rattle.values.specs.declared.Descriptor.the-variants.{Typed}
 use Rattle.values.specs.declared.Value.the-variants.{Present}
 use Rattle.values.proofs.Stand.{mayStand-wide, mayStand-zero}
-use Rattle.vectors.specs.Vectors.{vectors as vectorsOf, judged, shownNumbers}
+use Rattle.vectors.specs.Vectors.{vectors as vectorsOf, judged, shownNumbers, elementsOf}
 use Rattle.vectors.specs.Sound.{mostOf, soundly, sound}
 use Rattle.vectors.specs.declared.Judged.the-variants.{Sound}
-use Rattle.record.specs.Shown.{elementsOf}
 use Rattle.fetch_laws.proofs.Agree.{sound-there, soundly-judged}
 use Rattle.fetch.proofs.Inside.{present-inside}
 use Rattle.fetch_laws.proofs.Present.{present-typed}

@@ -3,7 +3,7 @@
 ghost use Prim.Native.Nat.{_<_, _≤_};
 ghost use lib.ListN.{length};
 ghost use mathlib.Core.Path.{_≡_};
-use fixed::Facts;
+use facts::Facts;
 use frames::Answer;
 use hexadecimal::FactsLine;
 

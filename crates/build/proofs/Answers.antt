@@ -11,16 +11,16 @@ use Rattle.words.specs.Pick.{pick}
 use Rattle.types.specs.declared.Use.the-variants.{Format, Gt}
 use Rattle.vectors.specs.Sound.{mostOf}
 use Rattle.genotypes.specs.Formats.{roleOf}
-use Rattle.record.specs.Shown.{Kind}
+use Rattle.shown.specs.Shown.{Kind, isIntegers}
 use Rattle.build_append.specs.Append.{firstOf, written, writtenTo}
-use Rattle.build_append.specs.Values.{pairBytes}
+use Rattle.shown.specs.Values.{pairBytes}
 use Rattle.build_append.specs.declared.Written.{Written}
 use Rattle.build_rules.specs.Rules.{gtNumber, formatOrder, formatShape, wrongInfo, wrongFormat}
 use Rattle.build_rules.specs.Values.{any, givenAs, givenNumber}
 use Rattle.build_rules.proofs.Numbers.{count-zero, count-below}
 use Rattle.build_append.proofs.Numbers.{first-zero, first-eq, first-assoc, first-refused}
 use Rattle.build.specs.Order.{rank, turned, appended, afterwards}
-use Rattle.build.specs.Turns.{inSite, inGenotypes, isIntegers, infoKey, infoRules, formatCount, formatFront, formatRules}
+use Rattle.build.specs.Turns.{inSite, inGenotypes, infoKey, infoRules, formatCount, formatFront, formatRules}
 use Rattle.build.specs.declared.Stage.{Stage}
 use Rattle.build.specs.declared.Builder.{Builder}
 

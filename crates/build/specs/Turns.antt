@@ -9,13 +9,14 @@ use lib.Seq.{sets}
 use Rattle.words.specs.Pick.{pick}
 use Rattle.vectors.specs.Sound.{mostOf}
 use Rattle.fixed.specs.Layout.{idAt}
-use Rattle.fixed.specs.declared.Facts.{Facts}
+use Rattle.facts.specs.declared.Facts.{Facts}
 use Rattle.genotypes.specs.Formats.{roleOf}
-use Rattle.record.specs.Shown.{Kind, integers, floats, text}
-use Rattle.build_front.specs.Front.{fieldsFilled}
-unfoldable pub use Rattle.build_front.specs.Front.{fieldsNumber, frontBytes}
+use Rattle.shown.specs.Shown.{Kind, integers, floats, text, isIntegers}
+use Rattle.shown.specs.Front.{fieldsFilled}
+unfoldable pub use Rattle.build_front.specs.Front.{fieldsNumber}
+unfoldable pub use Rattle.shown.specs.Front.{frontBytes}
 use Rattle.build_append.specs.Append.{firstOf}
-use Rattle.build_append.specs.Values.{givenBytes, pairBytes}
+use Rattle.shown.specs.Values.{givenBytes, pairBytes}
 use Rattle.build_rules.specs.Rules.{wrongBegin, wrongId, wrongAllele, wrongFilter, wrongInfo, wrongFormat, wrongEnd, formatOrder}
 use Rattle.build_rules.specs.Values.{givenAs, any, givenNumber}
 unfoldable pub use Rattle.build_rules.specs.Rules.{keyNumber, peopleNumber, repeatNumber, gtNumber, listNumber, formatKey, formatShape}
@@ -145,11 +146,6 @@ unfoldable pub afterInfo : Builder → List ℕ → ℕ → Kind → List ℕ �
 afterInfo st buf key k xs = afterwards st buf (infoRules st key k xs) (pairBytes key k (length xs) xs)
 
 -- FORMAT: people, a key that did not stand earlier, integers for GT, and a list of people times length
-abbrev pub isIntegers : Kind → Bool
-isIntegers integers = true
-isIntegers floats = false
-isIntegers text = false
-
 unfoldable pub formatCount : Stage → ℕ → ℕ → ℕ
 formatCount stage people formats = formatOrder (rank stage) people formats
 

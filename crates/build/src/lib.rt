@@ -10,13 +10,13 @@ ghost use mir.Val.{ofZ};
 ghost use Rattle.fixed.specs.Layout.{mostBytes};
 ghost use Rattle.vectors.specs.Sound.{mostOf};
 ghost use Rattle.genotypes.specs.Formats.{roleOf};
-ghost use Rattle.record.specs.Shown.{integers, floats, text};
+ghost use Rattle.shown.specs.Shown.{integers, floats, text};
 ghost use Rattle.build.specs.Order.{rank, turned};
 ghost use Rattle.build.specs.Turns.{inSite, inGenotypes, idGiven, afterId, alleleGiven, afterAllele, filterGiven, afterFilter, infoGiven, afterInfo, formatGiven, afterFormat, freshState, begunState, begun, afterBegin, infoKey, formatFront, movedTo, built, afterEnd};
 use build_append::Field;
 use build_append::Written;
 use build_append::first_of;
-use fixed::Facts;
+use facts::Facts;
 use values::Refusal;
 
 // The last turn that was taken.

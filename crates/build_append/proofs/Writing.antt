@@ -17,10 +17,10 @@ use Rattle.types.specs.Rows.{rowOf, widthOf}
 use Rattle.stores.specs.Stores.{filled}
 use Rattle.stores.proofs.Room.{filled-room}
 use Rattle.fixed.specs.Layout.{mostBytes}
-use Rattle.record.specs.Shown.{Kind, integers, floats, text}
+use Rattle.shown.specs.Shown.{Kind, integers, floats, text}
 use Rattle.encode.specs.Encode.{descriptorBytes, widest}
 use Rattle.encode.proofs.Lengths.{length-valueBytes}
-use Rattle.build_append.specs.Values.{givenBytes, pairBytes}
+use Rattle.shown.specs.Values.{givenBytes, pairBytes}
 use Rattle.build_append.specs.Append.{firstOf, roomNumber, headBytes, vectorLength, fieldBytes, written, writtenTo}
 use Rattle.build_append.specs.declared.Field.{Field}
 use Rattle.build_append.specs.declared.Field.the-variants.{Alone, Info, Format}

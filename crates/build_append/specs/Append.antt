@@ -8,8 +8,8 @@ use lib.Seq.{sets}
 use Rattle.words.specs.Pick.{pick}
 use Rattle.encode.specs.Encode.{integerBytes}
 use Rattle.fixed.specs.Layout.{mostBytes}
-use Rattle.record.specs.Shown.{Kind}
-use Rattle.build_append.specs.Values.{givenBytes, pairBytes}
+use Rattle.shown.specs.Shown.{Kind}
+use Rattle.shown.specs.Values.{givenBytes, pairBytes}
 use Rattle.build_append.specs.declared.Field.{Field}
 use Rattle.build_append.specs.declared.Field.the-variants.{Alone, Info, Format}
 use Rattle.build_append.specs.declared.Written.{Written}

@@ -9,8 +9,8 @@ ghost use mir.Syntax.{w32};
 ghost use mir.Val.{ofZ};
 ghost use Rattle.stores.specs.Stores.{filled};
 ghost use Rattle.encode.specs.Encode.{descriptorBytes, valueBytes};
-ghost use Rattle.record.specs.Shown.{integers, floats, text};
-ghost use Rattle.build_append.specs.Values.{givenBytes};
+ghost use Rattle.shown.specs.Shown.{integers, floats, text};
+ghost use Rattle.shown.specs.Values.{givenBytes};
 ghost use Rattle.build_append.specs.Append.{firstOf, roomNumber, headBytes, vectorLength, fieldBytes, written, writtenTo};
 
 // What a value is written as: alone (ID, an allele, FILTER), with an INFO field's key, or with a FORMAT field's key and the length of each

@@ -12,7 +12,7 @@ use Rattle.stores.specs.Stores.{filled}
 use Rattle.stores.proofs.Inside.{filled-inside}
 use Rattle.stores.proofs.Room.{filled-room, filled-short}
 use Rattle.fixed.specs.Layout.{indivAt, chromAt, posAt, rlenAt, countsAt, peopleAt, qualAt, idAt, filledTo, countsOf, membersOf}
-use Rattle.build_front.specs.Front.{frontBytes, fieldsFilled}
+use Rattle.shown.specs.Front.{frontBytes, fieldsFilled}
 
 -- a number stored in the first bytes, which stand at the buffer's start
 number-inside : (buf front : List ℕ) (i v : ℕ) → length front ≡ idAt → idAt ≤ length buf → i + 4 ≤ idAt

@@ -1,13 +1,10 @@
--- The fixed fields as they are written: their rules, the first bytes, and what is filled in last. Rests on the layout.
-use Prim.Native.Nat.{ℕ, _-_}
-use mathlib.Core.List.{List}
+-- The rules of the fixed fields that a builder is given. Rests on the layout.
+use Prim.Native.Nat.{ℕ}
 use lib.Dec.{ltb}
-use lib.ListN.{replicate}
-use lib.Seq.{sets}
 use Rattle.words.specs.Pick.{pick}
-use Rattle.words.specs.Words.{bytes, outside}
-use Rattle.fixed.specs.Layout.{indivAt, chromAt, posAt, rlenAt, countsAt, peopleAt, qualAt, idAt, countsOf, membersOf, posWrong, rlenWrong, qualWrong}
-use Rattle.fixed.specs.declared.Facts.{Facts}
+use Rattle.words.specs.Words.{outside}
+use Rattle.fixed.specs.Layout.{posWrong, rlenWrong, qualWrong}
+use Rattle.facts.specs.declared.Facts.{Facts}
 
 -- 5 for a fixed field that breaks its rule, or more people than a record can hold
 unfoldable pub fieldsNumber : Facts → ℕ → ℕ → ℕ → ℕ → ℕ
@@ -18,14 +15,3 @@ fieldsNumber f chrom pos rlen qual =
     (pick (qualWrong qual) 5
     (pick (ltb 16777215 (f .people)) 5
     0))))
-
--- the first 32 bytes, with both block lengths and both count fields 0
-unfoldable pub frontBytes : ℕ → ℕ → ℕ → ℕ → List ℕ
-frontBytes chrom pos rlen qual =
-    sets (sets (sets (sets (replicate idAt 0) chromAt (bytes 4 chrom)) posAt (bytes 4 pos)) rlenAt (bytes 4 rlen)) qualAt (bytes 4 qual)
-
--- both block lengths and both count fields, of a record that has so many bytes, its genotype block from the border on
-unfoldable pub fieldsFilled : ℕ → ℕ → ℕ → ℕ → ℕ → ℕ → List ℕ → List ℕ
-fieldsFilled border at alleles infos formats people buf =
-    sets (sets (sets (sets buf 0 (bytes 4 (border - 8))) indivAt (bytes 4 (at - border)))
-    countsAt (bytes 4 (countsOf alleles infos))) peopleAt (bytes 4 (membersOf formats people))

@@ -7,8 +7,9 @@ ghost use lib.ListN.{length};
 ghost use Rattle.words.specs.Pick.{pick};
 ghost use Rattle.stores.specs.Stores.{filled};
 ghost use Rattle.fixed.specs.Layout.{filledTo};
-ghost use Rattle.build_front.specs.Front.{fieldsNumber, frontBytes, fieldsFilled};
-use fixed::Facts;
+ghost use Rattle.build_front.specs.Front.{fieldsNumber};
+ghost use Rattle.shown.specs.Front.{frontBytes, fieldsFilled};
+use facts::Facts;
 
 // 5 for a fixed field that breaks its rule, or more people than a record can hold; else 0.
 pub fn fields_number(facts: Facts, chrom: u32, pos: u32, rlen: u32, qual: u32) -> u32

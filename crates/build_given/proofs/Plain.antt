@@ -15,7 +15,7 @@ use mir.Val.{ofZ}
 use borrow.Author.Tests.{lt-ltb, eq-eqb}
 use Rattle.words.specs.Pick.{pick}
 use Rattle.words.proofs.Sign.{bits-at}
-use Rattle.vectors.specs.Plain.{passed, allPassed, AllOn}
+use Rattle.vectors.specs.Engine.{passed, allPassed, AllOn}
 use Rattle.vectors.specs.declared.Judged.the-variants.{Sound}
 use Rattle.vectors.proofs.Plain.{and-pick, all-on, on-3, on-5, vector-on}
 use Rattle.build_given.specs.Given.{vectorsGiven, elementsNumber}

@@ -6,7 +6,7 @@ ghost use mathlib.Core.List.{map};
 ghost use Prim.Native.Nat.{_<_};
 ghost use mir.Syntax.{w32};
 ghost use mir.Val.{ofZ};
-ghost use Rattle.vectors.specs.Plain.{passed, allPassed};
+ghost use Rattle.vectors.specs.Engine.{passed, allPassed};
 ghost use Rattle.vectors.specs.Vectors.{vector};
 ghost use Rattle.build_given.specs.Given.{numberOf, elementsNumber, filtersNumber, alleleNumber};
 use vectors::Judged;

@@ -11,7 +11,7 @@ use Rattle.words.specs.Pick.{pick}
 use Rattle.types.specs.Rows.{rowOf, allowed}
 use Rattle.types.specs.declared.Use.the-variants.{Format, Gt as GtUse}
 use Rattle.fixed.specs.Layout.{mostBytes}
-use Rattle.fixed.specs.declared.Facts.{Facts}
+use Rattle.facts.specs.declared.Facts.{Facts}
 use Rattle.site.specs.Alleles.{allele}
 use Rattle.site.specs.Site.{info, site}
 use Rattle.site.specs.Steps.{times}
@@ -21,11 +21,11 @@ use Rattle.genotypes.specs.Formats.{formats, roleOf, gtNow, gtAt}
 use Rattle.genotypes.specs.declared.Gt.{Gt}
 use Rattle.genotypes.specs.declared.Genotypes.the-variants.{Sound}
 use Rattle.encode.specs.Encode.{integerBytes, descriptorBytes}
-use Rattle.record.specs.Shown.{Shown, Kind, integers, floats, text, Field}
-use Rattle.build_append.specs.Values.{writtenAs, givenBytes, pairBytes}
+use Rattle.shown.specs.Shown.{Shown, Kind, integers, floats, text, Field, isIntegers}
+use Rattle.shown.specs.Values.{writtenAs, givenBytes, pairBytes}
 use Rattle.build_rules.specs.Values.{givenAs}
-use Rattle.build.specs.Turns.{isIntegers}
-use Rattle.build_laws.specs.Records.{joined, textBytes, infoBytes, formatBytes, siteBytes, All, KeepsAllele, KeepsInfo, KeepsField, KeepsFields, Keeps}
+use Rattle.build_laws.specs.Records.{All, KeepsAllele, KeepsInfo, KeepsField, KeepsFields, Keeps}
+use Rattle.shown.specs.Records.{joined, textBytes, infoBytes, formatBytes, siteBytes}
 use Rattle.build_laws.proofs.Values.{length-given, drop-front, sound-given, id-given, allele-given, filter-given, keyed-bytes, info-given}
 
 -- a step past each of a list is so many steps past all

@@ -7,16 +7,17 @@ use native.Mathlib.Omega.{arith}
 use lib.ListN.{length, take, drop}
 use lib.Seq.{sets, take-at, drop-at}
 use Rattle.stores.proofs.Inside.{sets-start}
-use Rattle.fixed.specs.declared.Facts.{Facts}
+use Rattle.facts.specs.declared.Facts.{Facts}
 use Rattle.fixed.specs.declared.Site.{Site}
 use Rattle.genotypes.specs.declared.Gt.{Gt}
 use Rattle.record.specs.Reading.{reading}
-use Rattle.record.specs.Shown.{Shown}
+use Rattle.shown.specs.Shown.{Shown}
 use Rattle.record.specs.declared.Reading.the-variants.{Accepted}
 use Rattle.build.specs.Turns.{freshState}
 use Rattle.build.specs.declared.Builder.{Builder}
 use Rattle.contents.specs.Contents.{shownOf}
-use Rattle.build_laws.specs.Records.{recordBytes, All, Keeps}
+use Rattle.build_laws.specs.Records.{All, Keeps}
+use Rattle.shown.specs.Records.{recordBytes}
 use Rattle.build_laws.specs.Runs.{Turn, Run, done, next, turnsOf, gives, FitTurn, Finished}
 use Rattle.build_laws.specs.Builds.{wrote, ReadsBack, Tight, Builds}
 use Rattle.build_laws.proofs.ReadBack.{reads}

@@ -13,12 +13,14 @@ use Rattle.words.proofs.Pick.{pick-zero}
 use Rattle.words.specs.Words.{bytes, outside}
 use Rattle.words.proofs.Words.{number-bytes}
 use Rattle.fixed.specs.Layout.{indivAt, chromAt, posAt, rlenAt, countsAt, peopleAt, qualAt, idAt, countsOf, membersOf, field, posWrong, rlenWrong, peopleWrong, qualWrong}
-use Rattle.fixed.specs.declared.Facts.{Facts}
+use Rattle.facts.specs.declared.Facts.{Facts}
 use Rattle.fixed.specs.declared.Site.{Site}
-use Rattle.record.specs.Shown.{Shown}
-use Rattle.build_front.specs.Front.{fieldsNumber, frontBytes, fieldsFilled}
+use Rattle.shown.specs.Shown.{Shown}
+use Rattle.build_front.specs.Front.{fieldsNumber}
+use Rattle.shown.specs.Front.{frontBytes, fieldsFilled}
 use Rattle.fixed.proofs.Fits.{Fits}
-use Rattle.build_laws.specs.Records.{siteBytes, genotypeBytes, filledFront, recordBytes, Keeps}
+use Rattle.build_laws.specs.Records.{Keeps}
+use Rattle.shown.specs.Records.{siteBytes, genotypeBytes, filledFront, recordBytes}
 
 -- the site that a record is written with
 unfoldable pub siteFor : ℕ → Shown → Site

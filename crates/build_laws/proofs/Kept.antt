@@ -7,11 +7,12 @@ use native.Mathlib.Omega.{arith}
 use native.Mathlib.Nat.{zero-add}
 use lib.ListN.{length, length-append}
 use Rattle.fixed.specs.Layout.{mostBytes}
-use Rattle.fixed.specs.declared.Facts.{Facts}
-use Rattle.record.specs.Shown.{Shown, Pair, Field}
+use Rattle.facts.specs.declared.Facts.{Facts}
+use Rattle.shown.specs.Shown.{Shown, Pair, Field}
 use Rattle.build.specs.Turns.{freshState}
 use Rattle.build.specs.declared.Builder.{Builder}
-use Rattle.build_laws.specs.Records.{joined, formatBytes, genotypeBytes, recordBytes, All, KeepsAllele, KeepsInfo, KeepsFields, Keeps}
+use Rattle.build_laws.specs.Records.{All, KeepsAllele, KeepsInfo, KeepsFields, Keeps}
+use Rattle.shown.specs.Records.{joined, formatBytes, genotypeBytes, recordBytes}
 use Rattle.build_laws.specs.Runs.{Turn, allele, info, format, end, Run, turnsOf, gives, FitTurn, Finished}
 use Rattle.build_laws.proofs.Blocks.{length-person}
 use Rattle.build_laws.proofs.Front.{length-recordBytes}

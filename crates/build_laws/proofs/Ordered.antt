@@ -4,8 +4,8 @@ use mathlib.Core.List.{List, [], _∷_, _++_, map}
 use Prim.Native.Nat.{ℕ, _<_, _≤_}
 use native.Mathlib.Omega.{arith}
 use lib.ListN.{length}
-use Rattle.fixed.specs.declared.Facts.{Facts}
-use Rattle.record.specs.Shown.{Shown, Pair, Field}
+use Rattle.facts.specs.declared.Facts.{Facts}
+use Rattle.shown.specs.Shown.{Shown, Pair, Field}
 use Rattle.build_rules.specs.Rules.{formatOrder, wrongAllele, wrongBegin, wrongEnd, wrongFilter, wrongId, wrongInfo}
 use Rattle.build.specs.Order.{rank}
 use Rattle.build.specs.Turns.{freshState, beginNumber, idNumber, alleleRules, filterRules, infoKey, infoRules, formatCount, formatRules, endNumber}

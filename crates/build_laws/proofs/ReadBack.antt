@@ -6,18 +6,19 @@ use Prim.Native.Nat.{ℕ, _+_, _≤_}
 use native.Mathlib.Omega.{arith}
 use lib.ListN.{length}
 use Rattle.fixed.specs.Layout.{idAt, mostBytes}
-use Rattle.fixed.specs.declared.Facts.{Facts}
+use Rattle.facts.specs.declared.Facts.{Facts}
 use Rattle.fixed.specs.declared.Site.{Site}
 use Rattle.site.specs.declared.Step.the-variants.{At}
 use Rattle.genotypes.specs.Formats.{noGt}
 use Rattle.genotypes.specs.declared.Gt.{Gt}
 use Rattle.genotypes.specs.declared.Genotypes.the-variants.{Sound}
 use Rattle.record.specs.Reading.{reading, siteOf, genotypesOf}
-use Rattle.record.specs.Shown.{Shown}
+use Rattle.shown.specs.Shown.{Shown}
 use Rattle.record.specs.declared.Reading.the-variants.{Accepted}
 use Rattle.fixed.proofs.Fits.{fits-fixed}
 use Rattle.contents.specs.Contents.{shownOf}
-use Rattle.build_laws.specs.Records.{siteBytes, genotypeBytes, recordBytes, Keeps}
+use Rattle.build_laws.specs.Records.{Keeps}
+use Rattle.shown.specs.Records.{siteBytes, genotypeBytes, recordBytes}
 use Rattle.build_laws.proofs.Front.{siteFor, length-recordBytes, fits-record, site-block, genotype-block}
 use Rattle.build_laws.proofs.Blocks.{Genotyped, site-bytes, formats-bytes}
 use Rattle.build_laws.proofs.Shows.{shownOf-record}

@@ -8,11 +8,12 @@ use lib.ListN.{length, length-append}
 use lib.Seq.{sets, length-sets, append-snoc}
 use borrow.Author.Tests.{le-ltb}
 use Rattle.fixed.specs.Layout.{idAt, filledTo}
-use Rattle.fixed.specs.declared.Facts.{Facts}
-use Rattle.record.specs.Shown.{text, Pair, Field}
+use Rattle.facts.specs.declared.Facts.{Facts}
+use Rattle.shown.specs.Shown.{text, Pair, Field}
 use Rattle.build_rules.specs.Rules.{reachNumber, wrongBegin, wrongEnd}
 use Rattle.build.specs.Order.{rank}
-use Rattle.build_front.specs.Front.{fieldsNumber, frontBytes}
+use Rattle.build_front.specs.Front.{fieldsNumber}
+use Rattle.shown.specs.Front.{frontBytes}
 use Rattle.build.specs.Turns.{freshState, beginNumber, begunState, endNumber, endedState, filledIn}
 use Rattle.build.specs.declared.Stage.{Stage}
 use Rattle.build.specs.declared.Stage.the-variants.{Fresh, Begun, Alleles, Infos, Formats}
@@ -20,7 +21,8 @@ use Rattle.build.specs.declared.Builder.{Builder}
 use Rattle.build_append.proofs.Numbers.{first-zero}
 use Rattle.build_rules.proofs.Numbers.{reach-zero}
 use Rattle.words.specs.Words.{bytes}
-use Rattle.build_laws.specs.Records.{joined, textBytes, infoBytes, formatBytes, All, Fit, KeepsAllele, KeepsInfo, KeepsFields}
+use Rattle.build_laws.specs.Records.{All, Fit, KeepsAllele, KeepsInfo, KeepsFields}
+use Rattle.shown.specs.Records.{joined, textBytes, infoBytes, formatBytes}
 use Rattle.build_laws.specs.Runs.{Turn, begin, allele, info, format, end, FitTurn, Run, done}
 use Rattle.build_laws.proofs.Steps.{run-first, run-next}
 use Rattle.build_laws.proofs.Stands.{stands, RunFrom, Fits, fits-front, first-right, order-right, allele-run, allele-back, info-run, info-back, format-run, format-back}

@@ -12,21 +12,23 @@ use Rattle.types.specs.Rows.{rowOf, allowed}
 use Rattle.types.specs.declared.Use.{Use}
 use Rattle.types.specs.declared.Use.the-variants.{Id, Allele, Filter, Key, Info, Format}
 use Rattle.fixed.specs.Layout.{idAt, mostBytes}
-use Rattle.fixed.specs.declared.Facts.{Facts}
+use Rattle.facts.specs.declared.Facts.{Facts}
 use Rattle.encode.specs.Encode.{integerBytes, descriptorBytes, widest}
 use Rattle.site.specs.Steps.{times}
 use Rattle.site.specs.declared.Step.the-variants.{At}
-use Rattle.record.specs.Shown.{Shown, Kind, integers, floats, text, Pair, Field, kindOf, elementsOf}
+use Rattle.shown.specs.Shown.{Shown, Kind, integers, floats, text, Pair, Field, kindOf}
+use Rattle.vectors.specs.Vectors.{elementsOf}
 use Rattle.fetch.specs.Fields.{alone, paired, fieldAt}
-use Rattle.fetch.specs.Passing.{passing, past, toFilter, toInfo}
+use Rattle.fetch.specs.Engine.{passing, past, toFilter, toInfo}
 use Rattle.fetch.specs.declared.Kind.{Kind as FieldKind}
 use Rattle.fetch.specs.declared.Kind.the-variants.{Id as IdKind, Allele as AlleleKind, Filter as FilterKind, Info as InfoKind, Format as FormatKind}
 use Rattle.fetch.proofs.Inside.{drop-past}
 use Rattle.contents.specs.Contents.{shownOf}
 use Rattle.contents.proofs.Blocks.{item, bytesOf, pairOf, formatOf, itemsOf, eachIn, blocksShown, shown-blocks}
-use Rattle.build_append.specs.Values.{writtenAs, givenBytes, pairBytes}
+use Rattle.shown.specs.Values.{writtenAs, givenBytes, pairBytes}
 use Rattle.build_rules.specs.Values.{givenAs}
-use Rattle.build_laws.specs.Records.{joined, textBytes, infoBytes, formatBytes, siteBytes, genotypeBytes, recordBytes, All, Fit, KeepsAllele, KeepsInfo, KeepsFields, Keeps}
+use Rattle.build_laws.specs.Records.{All, Fit, KeepsAllele, KeepsInfo, KeepsFields, Keeps}
+use Rattle.shown.specs.Records.{joined, textBytes, infoBytes, formatBytes, siteBytes, genotypeBytes, recordBytes}
 use Rattle.build_laws.proofs.Widths.{widest-types, held-written}
 use Rattle.build_laws.proofs.Elements.{length-elementsBytes, shownNumbers-elements}
 use Rattle.build_laws.proofs.Values.{written-type, one-vector, present-given, drop-front, elements-drop, elements-size, integer-bytes, key-bits, allowed-info}

@@ -15,20 +15,21 @@ use Rattle.words.specs.Pick.{pick}
 use Rattle.words.proofs.Stores.{sets-append}
 use Rattle.stores.proofs.Inside.{sets-start}
 use Rattle.fixed.specs.Layout.{mostBytes}
-use Rattle.fixed.specs.declared.Facts.{Facts}
-use Rattle.record.specs.Shown.{integers, text, Pair, Field}
+use Rattle.facts.specs.declared.Facts.{Facts}
+use Rattle.shown.specs.Shown.{integers, text, Pair, Field, isIntegers}
 use Rattle.build_given.specs.Given.{filtersNumber}
 use Rattle.build_append.specs.Append.{firstOf, roomNumber}
 use Rattle.build_rules.specs.Rules.{countNumber, formatKey, formatOrder, formatShape, gtNumber, listNumber, ordered, peopleNumber, repeatNumber, wrongAllele, wrongFilter, wrongId, wrongInfo}
 use Rattle.build_rules.specs.Values.{any, givenNumber}
 use Rattle.build.specs.Order.{rank, order}
-use Rattle.build_append.specs.Values.{givenBytes}
-use Rattle.build.specs.Turns.{inSite, inGenotypes, idNumber, alleleRules, filterRules, infoKey, infoRules, isIntegers, formatCount, formatRules}
+use Rattle.shown.specs.Values.{givenBytes}
+use Rattle.build.specs.Turns.{inSite, inGenotypes, idNumber, alleleRules, filterRules, infoKey, infoRules, formatCount, formatRules}
 use Rattle.build.specs.declared.Stage.{Stage}
 use Rattle.build.specs.declared.Stage.the-variants.{Named, Alleles, Filtered, Infos, Formats}
 use Rattle.build.specs.declared.Builder.{Builder}
 use Rattle.build_append.proofs.Numbers.{first-zero, room-zero}
-use Rattle.build_laws.specs.Records.{textBytes, infoBytes, formatBytes, Fit, KeepsAllele, KeepsInfo, KeepsField}
+use Rattle.build_laws.specs.Records.{Fit, KeepsAllele, KeepsInfo, KeepsField}
+use Rattle.shown.specs.Records.{textBytes, infoBytes, formatBytes}
 use Rattle.build_laws.specs.Runs.{Turn, id, allele, filter, info, format, FitTurn, Run}
 use Rattle.build_laws.proofs.Steps.{turnNumber, turnState, turnBuffer, run-first, run-next}
 

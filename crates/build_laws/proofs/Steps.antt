@@ -9,18 +9,18 @@ use lib.ListN.{length}
 use lib.Seq.{sets}
 use borrow.Author.Tests.{eqb-true}
 use Rattle.words.specs.Pick.{pick}
-use Rattle.fixed.specs.declared.Facts.{Facts}
-use Rattle.record.specs.Shown.{integers}
+use Rattle.facts.specs.declared.Facts.{Facts}
+use Rattle.shown.specs.Shown.{integers}
 use Rattle.build_append.specs.Append.{firstOf, roomNumber, writtenTo}
 use Rattle.build.specs.Order.{turned, appended, afterwards}
-use Rattle.build_append.specs.Values.{givenBytes}
-use Rattle.build_front.specs.Front.{frontBytes}
+use Rattle.shown.specs.Values.{givenBytes}
+use Rattle.shown.specs.Front.{frontBytes}
 use Rattle.build.specs.Turns.{inSite, inGenotypes, beginNumber, begunState, begun, afterBegin, idNumber, idGiven, afterId, alleleRules, alleleGiven, afterAllele, filterRules, filterGiven, afterFilter, infoRules, infoGiven, afterInfo, formatRules, formatGiven, afterFormat, endNumber, endedState, filledIn, built, afterEnd}
 use Rattle.build.specs.declared.Stage.the-variants.{Named, Alleles, Filtered, Infos}
 use Rattle.build.specs.declared.Builder.{Builder}
 use Rattle.build.specs.declared.Answer.the-variants.{Taken}
 use Rattle.build.specs.declared.Turned.{Turned}
-use Rattle.build_laws.specs.Records.{textBytes, infoBytes, formatBytes}
+use Rattle.shown.specs.Records.{textBytes, infoBytes, formatBytes}
 use Rattle.build_laws.specs.Runs.{Turn, begin, id, allele, filter, info, format, end, answers, writes, Run, done, next}
 
 -- the number of a turn

@@ -34,13 +34,14 @@ use Rattle.site.specs.Filters.{filters, filtered, filter}
 use Rattle.site.specs.Site.{info}
 use Rattle.site.specs.Steps.{valueStep}
 use Rattle.site.specs.declared.Step.the-variants.{At}
-use Rattle.record.specs.Shown.{Kind, integers, floats, text, Pair}
+use Rattle.shown.specs.Shown.{Kind, integers, floats, text, Pair}
 use Rattle.encode.specs.Encode.{integerBytes, descriptorBytes, widest, narrowed, elementsBytes, valueBytes}
 use Rattle.build_given.specs.Given.{numberOf, filtersNumber, alleleNumber}
-use Rattle.build_append.specs.Values.{writtenAs, givenBytes, pairBytes}
+use Rattle.shown.specs.Values.{writtenAs, givenBytes, pairBytes}
 use Rattle.build_rules.specs.Rules.{keyNumber}
 use Rattle.build_rules.specs.Values.{any, givenAs, givenNumber}
-use Rattle.build_laws.specs.Records.{Fit, textBytes, infoBytes, KeepsAllele, KeepsInfo}
+use Rattle.build_laws.specs.Records.{Fit, KeepsAllele, KeepsInfo}
+use Rattle.shown.specs.Records.{textBytes, infoBytes}
 use Rattle.build_laws.proofs.Widths.{narrowest-types, shown-narrowest, widest-types, held-written}
 use Rattle.build_laws.proofs.Elements.{length-elementsBytes, shownNumbers-elements, judged-elements}
 

@@ -22,8 +22,8 @@ use Rattle.types.specs.declared.Element.the-variants.{Plain, Missing, End, Rese
 use Rattle.vectors.specs.Sound.{highest, codeMost, mostOf}
 use Rattle.vectors.proofs.Codes.{code-sound, sound-code}
 use Rattle.encode.specs.Encode.{typeFor, widest, markedAs, narrowed}
-use Rattle.record.specs.Shown.{Kind, integers, floats, text}
-use Rattle.build_append.specs.Values.{writtenAs}
+use Rattle.shown.specs.Shown.{Kind, integers, floats, text}
+use Rattle.shown.specs.Values.{writtenAs}
 use Rattle.build_rules.specs.Values.{givenAs}
 use Rattle.build_laws.specs.Records.{All, Fit}
 use Rattle.build_laws.specs.Widths.{between}

@@ -11,16 +11,17 @@ use Rattle.words.specs.Words.{bytes}
 use Rattle.words.proofs.Words.{length-bytes}
 use Rattle.stores.proofs.Inside.{sets-inside}
 use Rattle.fixed.specs.Layout.{indivAt, countsAt, peopleAt, idAt, countsOf, membersOf}
-use Rattle.fixed.specs.declared.Facts.{Facts}
-use Rattle.record.specs.Shown.{Shown, integers, Field}
+use Rattle.facts.specs.declared.Facts.{Facts}
+use Rattle.shown.specs.Shown.{Shown, integers, Field}
 use Rattle.build.specs.Order.{rank}
-use Rattle.build_append.specs.Values.{givenBytes}
-use Rattle.build_front.specs.Front.{frontBytes, fieldsFilled}
+use Rattle.shown.specs.Values.{givenBytes}
+use Rattle.shown.specs.Front.{frontBytes, fieldsFilled}
 use Rattle.build.specs.Turns.{freshState, endedState, filledIn}
 use Rattle.build.specs.declared.Stage.{Stage}
 use Rattle.build.specs.declared.Stage.the-variants.{Named, Alleles, Filtered, Infos, Formats, Ended}
 use Rattle.build.specs.declared.Builder.{Builder}
-use Rattle.build_laws.specs.Records.{joined, textBytes, infoBytes, formatBytes, siteBytes, genotypeBytes, filledFront, recordBytes, Keeps}
+use Rattle.build_laws.specs.Records.{Keeps}
+use Rattle.shown.specs.Records.{joined, textBytes, infoBytes, formatBytes, siteBytes, genotypeBytes, filledFront, recordBytes}
 use Rattle.build_laws.specs.Runs.{format, end, Run, turnsOf}
 use Rattle.build_laws.proofs.Front.{length-recordBytes}
 use Rattle.build_laws.proofs.Stands.{stands, RunFrom, Fits, fits-front, id-run, filter-run}

@@ -3,11 +3,11 @@ use Prim.Native.Nat.{ℕ}
 use mathlib.Core.Path.{_≡_}
 use mathlib.Core.List.{List}
 use lib.ListN.{take}
-use Rattle.fixed.specs.declared.Facts.{Facts}
+use Rattle.facts.specs.declared.Facts.{Facts}
 use Rattle.fixed.specs.declared.Site.{Site}
 use Rattle.genotypes.specs.declared.Gt.{Gt}
 use Rattle.record.specs.Reading.{reading}
-use Rattle.record.specs.Shown.{Shown}
+use Rattle.shown.specs.Shown.{Shown}
 use Rattle.record.specs.declared.Reading.the-variants.{Accepted}
 use Rattle.contents.specs.Contents.{shownOf}
 use Rattle.build_laws.specs.Records.{All}

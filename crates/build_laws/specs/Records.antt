@@ -1,6 +1,5 @@
--- A record as it is written from what it shows, and the rules that what it shows keeps. Rests on build's bytes and rules of each turn, and
--- on what a record shows.
-use Prim.Native.Nat.{ℕ, _+_, _-_, _*_, _<_, _≤_}
+-- The rules that what a record shows keeps. Rests on build's rules of each turn, and on what a record shows and is written as.
+use Prim.Native.Nat.{ℕ, _*_, _<_, _≤_}
 use mathlib.Core.Path.{_≡_}
 use mathlib.Core.List.{List, [], _∷_, _++_}
 use mathlib.Core.Bool.{true, false}
@@ -8,51 +7,15 @@ use lib.Dec.{eqb}
 use lib.ListN.{length}
 use Rattle.words.specs.Lists.{among}
 use Rattle.vectors.specs.Sound.{mostOf}
-use Rattle.fixed.specs.Layout.{idAt, mostBytes}
-use Rattle.fixed.specs.declared.Facts.{Facts}
+use Rattle.fixed.specs.Layout.{mostBytes}
+use Rattle.facts.specs.declared.Facts.{Facts}
 use Rattle.genotypes.specs.Formats.{roleOf}
-use Rattle.record.specs.Shown.{Shown, Kind, integers, floats, text, Pair, Field}
+use Rattle.shown.specs.Shown.{Shown, Kind, integers, floats, text, Pair, Field, isIntegers}
 use Rattle.build_given.specs.Given.{filtersNumber, alleleNumber}
-use Rattle.build_append.specs.Values.{givenBytes, pairBytes}
-use Rattle.build_front.specs.Front.{fieldsNumber, frontBytes, fieldsFilled}
+use Rattle.shown.specs.Records.{recordBytes}
+use Rattle.build_front.specs.Front.{fieldsNumber}
 use Rattle.build_rules.specs.Rules.{keyNumber}
 use Rattle.build_rules.specs.Values.{any, givenAs, givenNumber}
-use Rattle.build.specs.Turns.{isIntegers}
-
--- lists one after the other, each as its bytes
-unfoldable pub joined : {A : Type 0} → (A → List ℕ) → List A → List ℕ
-joined f [] = []
-joined f (x ∷ xs) = f x ++ joined f xs
-
--- text as ID and alleles are written, an INFO pair, a FORMAT field
-abbrev pub textBytes : List ℕ → List ℕ
-textBytes xs = givenBytes text (length xs) xs
-
-abbrev pub infoBytes : Pair → List ℕ
-infoBytes p = pairBytes (p .key) (p .value .kind) (length (p .value .elements)) (p .value .elements)
-
-abbrev pub formatBytes : Field → List ℕ
-formatBytes x = pairBytes (x .key) (x .value .kind) (x .len) (x .value .elements)
-
--- the two blocks
-unfoldable pub siteBytes : Shown → List ℕ
-siteBytes r =
-    textBytes (r .id)
-    ++ (joined textBytes (r .alleles) ++ (givenBytes integers (length (r .filters)) (r .filters) ++ joined infoBytes (r .infos)))
-
-unfoldable pub genotypeBytes : Shown → List ℕ
-genotypeBytes r = joined formatBytes (r .formats)
-
--- the first bytes with both block lengths and both count fields filled in
-unfoldable pub filledFront : ℕ → Shown → List ℕ
-filledFront people r =
-    let border = idAt + length (siteBytes r) in
-    fieldsFilled border (border + length (genotypeBytes r)) (length (r .alleles)) (length (r .infos)) (length (r .formats)) people
-    (frontBytes (r .chrom) (r .pos) (r .rlen) (r .qual))
-
--- a whole record
-unfoldable pub recordBytes : ℕ → Shown → List ℕ
-recordBytes people r = filledFront people r ++ (siteBytes r ++ genotypeBytes r)
 
 -- each of a list keeps a rule
 abbrev pub All : {A : Type 0} → (A → Type 0) → List A → Type 0

@@ -4,8 +4,8 @@ use Prim.Native.Nat.{ℕ, _<_}
 use mathlib.Core.Path.{_≡_}
 use mathlib.Core.List.{List, [], _∷_, _++_, map}
 use lib.ListN.{length}
-use Rattle.fixed.specs.declared.Facts.{Facts}
-use Rattle.record.specs.Shown.{Shown, integers, text, Pair, Field}
+use Rattle.facts.specs.declared.Facts.{Facts}
+use Rattle.shown.specs.Shown.{Shown, integers, text, Pair, Field}
 use Rattle.build.specs.Turns.{freshState, begun, afterBegin, idGiven, afterId, alleleGiven, afterAllele, filterGiven, afterFilter, infoGiven, afterInfo, formatGiven, afterFormat, built, afterEnd}
 use Rattle.build.specs.declared.Stage.the-variants.{Ended}
 use Rattle.build.specs.declared.Builder.{Builder}

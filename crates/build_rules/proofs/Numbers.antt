@@ -7,7 +7,7 @@ use lib.Dec.{ltb}
 use borrow.Author.Tests.{ltb-false, ltb-true}
 use Rattle.words.specs.Pick.{pick}
 use Rattle.fixed.specs.Layout.{idAt, filledTo}
-use Rattle.fixed.specs.declared.Facts.{Facts}
+use Rattle.facts.specs.declared.Facts.{Facts}
 use Rattle.build_append.specs.Append.{firstOf}
 use Rattle.build_append.proofs.Numbers.{first-zero}
 use Rattle.build_rules.specs.Rules.{countNumber, reachNumber, wrongBegin, wrongEnd}

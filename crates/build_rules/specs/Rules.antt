@@ -9,8 +9,8 @@ use Rattle.words.specs.Lists.{among}
 use Rattle.words.specs.Pick.{pick}
 use Rattle.words.specs.Words.{outside}
 use Rattle.fixed.specs.Layout.{idAt, filledTo}
-use Rattle.fixed.specs.declared.Facts.{Facts}
-use Rattle.record.specs.Shown.{text}
+use Rattle.facts.specs.declared.Facts.{Facts}
+use Rattle.shown.specs.Shown.{text}
 use Rattle.build_append.specs.Append.{firstOf}
 use Rattle.build_front.specs.Front.{fieldsNumber}
 use Rattle.build_given.specs.Given.{filtersNumber, alleleNumber}

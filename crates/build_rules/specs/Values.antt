@@ -2,7 +2,7 @@
 use Prim.Native.Nat.{ℕ}
 use mathlib.Core.List.{List}
 use Rattle.build_given.specs.Given.{elementsNumber}
-use Rattle.record.specs.Shown.{Kind, integers, floats, text}
+use Rattle.shown.specs.Shown.{Kind, integers, floats, text}
 
 -- integers are judged as those of type 3, floats as those of type 5, text as that of type 7
 abbrev pub givenAs : Kind → ℕ

@@ -9,7 +9,7 @@ ghost use mir.Val.{ofZ};
 ghost use Rattle.words.specs.Pick.{pick};
 ghost use Rattle.build_rules.specs.Rules.{ordered, countNumber, reachNumber, keyNumber, peopleNumber, repeatNumber, gtNumber, listNumber, formatOrder, formatKey, formatShape, wrongBegin, wrongEnd, wrongId, wrongAllele, wrongFilter, wrongInfo, wrongFormat};
 use build_append::first_of;
-use fixed::Facts;
+use facts::Facts;
 
 // 12 for a turn that may come only after a turn from one to another.
 fn order_number(rank: u8, low: u8, high: u8) -> u32

@@ -2,7 +2,7 @@
 // Everything that is said of a turn is build's and everything that is said of a line is frames'; this moves bytes.
 use build::Builder;
 use build::Turned;
-use fixed::Facts;
+use facts::Facts;
 
 // Whether a turn was taken.
 fn is_taken(turned: Turned) -> bool {

@@ -7,7 +7,7 @@ ghost use lib.ListN.{length};
 ghost use mir.Syntax.{w32};
 ghost use mir.Val.{ofZ};
 ghost use Rattle.record.specs.Reading.{reading};
-ghost use Rattle.record.specs.Shown.{integers, floats, text};
+ghost use Rattle.shown.specs.Shown.{integers, floats, text};
 ghost use Rattle.fetch.specs.Fetch.{found, fieldOf};
 ghost use Rattle.elements.specs.Elements.{elementAt};
 ghost use Rattle.tally.specs.Tally.{tallied};
@@ -17,8 +17,8 @@ ghost use Rattle.build.specs.Turns.{begun, afterBegin, idGiven, afterId, allele
 ghost use Rattle.c_answers.specs.Told.{siteTold, readingAnswer, readingNumbers, foundAnswer, foundNumbers, pairAnswer, pairNumbers, openingAnswer, shownAnswer, talliedAnswer, talliedNumbers, choosingAnswer};
 ghost use Rattle.c_state.specs.Kept.{stateOf, turnAnswer, turnNumbers, freshAnswer, freshNumbers};
 ghost use Rattle.c_api.specs.Given.{factsGiven, kindGiven, numberGiven};
+use facts::Facts;
 use fetch::Kind;
-use fixed::Facts;
 
 // The kind of a number.
 fn kind_given(kind: u32) -> Kind

@@ -8,7 +8,7 @@ use build::Answer;
 use build::Builder;
 use build::Stage;
 use build::Turned;
-use fixed::Facts;
+use facts::Facts;
 
 // The stage of a rank; past the last one nothing is taken any more.
 fn stage_of(rank: u32) -> Stage

@@ -1,4 +1,4 @@
--- Counters raised by one number, by a list, and by nothing. Rests on specs/Sweep.
+-- Counters raised by one number, by a list, and by nothing. Rests on specs/Engine.
 use mathlib.Core.Path.{_≡_, refl}
 use mathlib.Core.List.{List, [], _∷_, _++_}
 use Prim.Native.Nat.{ℕ, zero, suc, _+_, _<_, _≤_}
@@ -7,7 +7,7 @@ use native.Mathlib.Nat.{le-of-suc-le-suc}
 use lib.ListN.{length, getD, set, replicate}
 use borrow.Author.Tests.{eq-eqb, ne-eqb}
 use Rattle.calls.specs.Calls.{howMany, counters, AtMost}
-use Rattle.calls.specs.Sweep.{raised}
+use Rattle.calls.specs.Engine.{raised}
 
 -- a number is found as often as in both of two lists
 pub howMany-append : (k : ℕ) (xs ys : List ℕ) → howMany k (xs ++ ys) ≡ howMany k xs + howMany k ys

@@ -1,5 +1,5 @@
 -- People whose elements are all missing alleles or one of the first three: what they are called is the halves of their numbers, and none is
--- without a slot. Rests on specs/Halves and on the counters.
+-- without a slot. Rests on specs/Engine and on the counters.
 use mathlib.Core.Path.{_≡_, refl, sym, _∙_}
 use mathlib.Core.List.{List, [], _∷_, _++_}
 use mathlib.Core.Bool.{Bool, true, false}
@@ -18,8 +18,7 @@ use Rattle.types.specs.declared.Element.the-variants.{Plain}
 use Rattle.vectors.specs.Vectors.{numbers}
 use Rattle.vectors.proofs.Plain.{byte-at, width-1}
 use Rattle.calls.specs.Calls.{slots, alleles, people, called, without, noSlot, howMany, counters, AtMost}
-use Rattle.calls.specs.Halves.{halves}
-use Rattle.calls.specs.Sweep.{raised}
+use Rattle.calls.specs.Engine.{halves, raised}
 use Rattle.calls.specs.Totals.{total, sums}
 use Rattle.calls.proofs.Counters.{howMany-miss}
 use Rattle.calls.proofs.Laws.{counted-once, none-counted}

@@ -1,5 +1,5 @@
 -- People of two elements, some with padding: what they are called, of the missing and the first three alleles, is counted by the halves of all
--- their elements, since an end of vector has none of these. Rests on specs/Halves and proofs/Halves.
+-- their elements, since an end of vector has none of these. Rests on specs/Engine and proofs/Halves.
 use mathlib.Core.Path.{_≡_, refl, sym, _∙_}
 use mathlib.Core.Logic.{_⊎_, inl, inr, ⊎-elim}
 use mathlib.Core.List.{List, [], _∷_, _++_}
@@ -19,8 +19,7 @@ use Rattle.types.specs.declared.Element.the-variants.{End}
 use Rattle.vectors.specs.Vectors.{numbers}
 use Rattle.vectors.proofs.Plain.{byte-at}
 use Rattle.calls.specs.Calls.{slots, alleles, people, called, without, noSlot, howMany, counters, AtMost}
-use Rattle.calls.specs.Halves.{halves, firstsFew}
-use Rattle.calls.specs.Sweep.{raised}
+use Rattle.calls.specs.Engine.{halves, firstsFew, raised}
 use Rattle.calls.specs.Totals.{total, sums}
 use Rattle.calls.proofs.Counters.{howMany-hit, howMany-miss, wider}
 use Rattle.calls.proofs.Halves.{counters-past, few-block, few-plain, no-alleles, none-found, raised-within, sums-raised}

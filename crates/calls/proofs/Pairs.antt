@@ -1,10 +1,10 @@
--- Counters kept as pairs: their sums, after a store and at each place. Rests on specs/Sweep.
+-- Counters kept as pairs: their sums, after a store and at each place. Rests on specs/Engine.
 use mathlib.Core.Path.{_≡_, refl, sym}
 use mathlib.Core.List.{List, [], _∷_}
 use Prim.Native.Nat.{ℕ, zero, suc, _+_, _*_, _%_, _<_, _≤_}
 use native.Mathlib.Omega.{arith}
 use lib.ListN.{length, getD, set}
-use Rattle.calls.specs.Sweep.{folded}
+use Rattle.calls.specs.Engine.{folded}
 use Rattle.calls.specs.Totals.{sums}
 
 -- raising either counter of a pair raises the sum

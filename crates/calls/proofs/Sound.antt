@@ -19,7 +19,7 @@ use Rattle.vectors.specs.declared.Judged.{Judged}
 use Rattle.vectors.specs.declared.Judged.the-variants.{Sound, Refused as Unsound}
 use Rattle.vectors.proofs.Codes.{code-sound}
 use Rattle.calls.specs.Calls.{slots, alleles, people, called, without, AtMost, peopleTally, peopleOf, counted}
-use Rattle.calls.specs.Sweep.{slotted}
+use Rattle.calls.specs.Engine.{slotted}
 use Rattle.calls.specs.Totals.{total, slotCount, withSlots}
 use Rattle.calls.proofs.Turns.{calls, alleles-cons}
 use Rattle.calls.proofs.Laws.{people-tally-slots, with-and-without, length-people}

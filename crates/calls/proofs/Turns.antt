@@ -1,4 +1,4 @@
--- One turn of each loop: of a person's elements, of people, and of blocks of them. Rests on specs/Sweep.
+-- One turn of each loop: of a person's elements, of people, and of blocks of them. Rests on specs/Engine.
 use mathlib.Core.Path.{_≡_, refl}
 use mathlib.Core.List.{List, [], _∷_, _++_, map}
 use Prim.Native.Nat.{ℕ, zero, suc, _+_, _-_, _*_, _/_, _<_, _≤_}
@@ -13,7 +13,7 @@ use Rattle.types.specs.declared.Element.{Element}
 use Rattle.types.specs.declared.Element.the-variants.{Plain, Missing, End, Reserved}
 use Rattle.vectors.specs.Vectors.{numbers}
 use Rattle.calls.specs.Calls.{before, slots, alleleOf, alleles, people, called, without, noSlot, peopleTally}
-use Rattle.calls.specs.Sweep.{slotted, raised}
+use Rattle.calls.specs.Engine.{slotted, raised}
 use Rattle.calls.specs.declared.Calls.{Calls}
 use Rattle.calls.specs.declared.Slot.{Slot}
 use Rattle.calls.specs.declared.Slot.the-variants.{Past, Call}

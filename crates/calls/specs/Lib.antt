@@ -1,4 +1,3 @@
 pub mod Calls
-pub mod Halves
-pub mod Sweep
+pub mod Engine
 pub mod Totals

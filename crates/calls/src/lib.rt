@@ -11,8 +11,7 @@ ghost use Rattle.types.specs.Rows.{widthOf};
 ghost use Rattle.types.specs.Elements.{kind};
 ghost use Rattle.vectors.specs.Vectors.{numbers};
 ghost use Rattle.calls.specs.Calls.{slots, alleles, noSlot, people, called, without, howMany, counters, AtMost, counted};
-ghost use Rattle.calls.specs.Halves.{halves, listed, firstsFew};
-ghost use Rattle.calls.specs.Sweep.{slotted, raised, folded};
+ghost use Rattle.calls.specs.Engine.{halves, listed, firstsFew, slotted, raised, folded};
 ghost use Rattle.calls.specs.Totals.{total, sums};
 use types::Element;
 

@@ -9,7 +9,7 @@ use lib.ListN.{length, take, drop, length-take, length-drop}
 use lib.Seq.{take-length, length-take-le}
 use Rattle.words.specs.Words.{Bytes}
 use Rattle.types.specs.Rows.{widthOf}
-use Rattle.fixed.specs.declared.Facts.{Facts}
+use Rattle.facts.specs.declared.Facts.{Facts}
 use Rattle.fixed.specs.declared.Site.{Site}
 use Rattle.genotypes.specs.Formats.{formats, noGt}
 use Rattle.genotypes.specs.declared.Gt.{Gt}

@@ -10,7 +10,7 @@ use Rattle.words.specs.Words.{bytes}
 use Rattle.words.proofs.Words.{length-bytes}
 use Rattle.types.specs.Rows.{widthOf}
 use Rattle.fixed.specs.Layout.{indivAt, peopleAt, membersOf}
-use Rattle.fixed.specs.declared.Facts.{Facts}
+use Rattle.facts.specs.declared.Facts.{Facts}
 use Rattle.fixed.specs.declared.Site.{Site}
 use Rattle.genotypes.specs.declared.Gt.{Gt}
 use Rattle.record.specs.Reading.{reading}

@@ -17,7 +17,7 @@ use Rattle.calls.specs.Totals.{sums, together}
 use Rattle.calls.proofs.Counters.{howMany-append, raised-none, raised-zeros}
 use Rattle.genotypes.specs.declared.Gt.{Gt}
 use Rattle.types.specs.Rows.{widthOf}
-use Rattle.fixed.specs.declared.Facts.{Facts}
+use Rattle.facts.specs.declared.Facts.{Facts}
 use Rattle.fixed.specs.declared.Site.{Site}
 use Rattle.record.specs.Reading.{reading}
 use Rattle.record.specs.declared.Reading.the-variants.{Accepted}

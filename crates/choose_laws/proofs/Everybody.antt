@@ -10,7 +10,7 @@ use Rattle.words.specs.Words.{number, bytes, Bytes}
 use Rattle.words.proofs.Words.{bytes-le}
 use Rattle.types.specs.Rows.{widthOf}
 use Rattle.fixed.specs.Layout.{indivAt, peopleAt, field}
-use Rattle.fixed.specs.declared.Facts.{Facts}
+use Rattle.facts.specs.declared.Facts.{Facts}
 use Rattle.fixed.specs.declared.Site.{Site}
 use Rattle.genotypes.specs.declared.Gt.{Gt}
 use Rattle.record.specs.Reading.{reading}

@@ -8,7 +8,7 @@ use lib.ListN.{length, take, drop}
 use Rattle.types.specs.Rows.{widthOf}
 use Rattle.types.specs.declared.Use.the-variants.{Format}
 use Rattle.fixed.specs.Layout.{indivAt, peopleAt, idAt, membersOf, field}
-use Rattle.fixed.specs.declared.Facts.{Facts}
+use Rattle.facts.specs.declared.Facts.{Facts}
 use Rattle.fixed.specs.declared.Site.{Site}
 use Rattle.fixed.proofs.Fits.{people-given}
 use Rattle.genotypes.specs.Formats.{formats, noneOver}

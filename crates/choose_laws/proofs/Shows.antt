@@ -9,13 +9,12 @@ use native.Mathlib.Nat.{mul-zero, mul-div-cancel}
 use lib.ListN.{length, take, drop, replicate}
 use lib.Seq.{take-nil, drop-nil}
 use Rattle.types.specs.Rows.{widthOf}
-use Rattle.vectors.specs.Vectors.{shownNumbers}
+use Rattle.vectors.specs.Vectors.{shownNumbers, elementsOf}
 use Rattle.fixed.specs.Layout.{idAt}
-use Rattle.fixed.specs.declared.Facts.{Facts}
+use Rattle.facts.specs.declared.Facts.{Facts}
 use Rattle.fixed.specs.declared.Site.{Site}
 use Rattle.genotypes.specs.declared.Gt.{Gt}
 use Rattle.record.specs.Reading.{reading}
-use Rattle.record.specs.Shown.{elementsOf}
 use Rattle.record.specs.declared.Reading.the-variants.{Accepted}
 use Rattle.fetch.specs.declared.Kind.the-variants.{Format}
 use Rattle.contents.specs.Contents.{shownOf}

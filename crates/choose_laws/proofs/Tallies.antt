@@ -4,7 +4,7 @@ use mathlib.Core.List.{List, [], _∷_}
 use Prim.Native.Nat.{ℕ, _≤_}
 use lib.ListN.{length}
 use Rattle.words.specs.Words.{Bytes}
-use Rattle.fixed.specs.declared.Facts.{Facts}
+use Rattle.facts.specs.declared.Facts.{Facts}
 use Rattle.fixed.specs.declared.Site.{Site}
 use Rattle.genotypes.specs.declared.Gt.{Gt}
 use Rattle.record.specs.Reading.{reading}

@@ -3,9 +3,9 @@
 use Prim.Native.Nat.{ℕ, zero, suc}
 use mathlib.Core.List.{List, [], _∷_, map}
 use lib.ListN.{length, getD}
-use Rattle.fixed.specs.declared.Facts.{Facts}
+use Rattle.facts.specs.declared.Facts.{Facts}
 use Rattle.fixed.specs.declared.Site.{Site}
-use Rattle.record.specs.Shown.{Shown, Field}
+use Rattle.shown.specs.Shown.{Shown, Field}
 use Rattle.choice.specs.Choice.{chosenParts}
 use Rattle.choose.specs.Chosen.{keptFormats, chosenRecord}
 

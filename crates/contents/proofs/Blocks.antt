@@ -13,10 +13,11 @@ use Rattle.fixed.specs.Layout.{idAt}
 use Rattle.fixed.specs.declared.Site.{Site}
 use Rattle.site.specs.declared.Step.{Step}
 use Rattle.site.specs.declared.Step.the-variants.{At, Refused as NoStep}
-use Rattle.record.specs.Shown.{Elements, Pair, Field, Shown, kindOf, elementsOf}
+use Rattle.shown.specs.Shown.{Elements, Pair, Field, Shown, kindOf}
+use Rattle.vectors.specs.Vectors.{elementsOf}
 use Rattle.fetch.specs.Fields.{fieldAt, foundInside}
-use Rattle.fetch.specs.Account.{Entry, entered, fieldsOf, siteKinds, siteFields, genotypeFields, account, isKind, ofKind}
-use Rattle.fetch.specs.Passing.{toFirst, isFormat, blockFrom, blockEnd, blockOf, countOf}
+use Rattle.fetch.specs.Account.{Entry, entered, fieldsOf, siteKinds, siteFields, genotypeFields, account, isKind, ofKind, countOf}
+use Rattle.fetch.specs.Engine.{toFirst, isFormat, blockFrom, blockEnd, blockOf}
 use Rattle.fetch.specs.declared.Kind.{Kind}
 use Rattle.fetch.specs.declared.Kind.the-variants.{Id, Allele, Filter, Info, Format}
 use Rattle.fetch.specs.declared.Found.{Found}

@@ -12,8 +12,7 @@ use Rattle.words.specs.Pick.{pick}
 use Rattle.words.specs.Words.{le, number}
 use Rattle.types.specs.Rows.{rowOf, widthOf}
 use Rattle.types.specs.Elements.{shown}
-use Rattle.vectors.specs.Vectors.{shownNumbers}
-use Rattle.record.specs.Shown.{elementsOf}
+use Rattle.vectors.specs.Vectors.{shownNumbers, elementsOf}
 use Rattle.fetch_laws.proofs.Fronts.{numbers-take, shownNumbers-numbers}
 use Rattle.elements.specs.Elements.{elementAt}
 use Rattle.elements.specs.declared.Shown.the-variants.{Bits, Nothing}

@@ -12,15 +12,16 @@ use Rattle.values.specs.Answers.{refusal}
 use Rattle.values.specs.Values.{present}
 use Rattle.values.specs.declared.Value.{Value}
 use Rattle.values.specs.declared.Value.the-variants.{Present, Refused as NoValue}
-use Rattle.fixed.specs.declared.Facts.{Facts}
+use Rattle.facts.specs.declared.Facts.{Facts}
 use Rattle.fixed.specs.declared.Site.{Site}
 use Rattle.genotypes.specs.declared.Gt.{Gt}
 use Rattle.record.specs.Reading.{reading}
-use Rattle.record.specs.Shown.{Pair, Field, integers, kindOf, elementsOf}
+use Rattle.shown.specs.Shown.{Pair, Field, integers, kindOf}
+use Rattle.vectors.specs.Vectors.{elementsOf}
 use Rattle.record.specs.declared.Reading.the-variants.{Accepted}
 use Rattle.fetch.specs.Fields.{valueField, alone, fieldAt}
-use Rattle.fetch.specs.Account.{Entry, account, ofKind, asFound, numbered}
-use Rattle.fetch.specs.Passing.{blockEnd, countOf}
+use Rattle.fetch.specs.Account.{Entry, account, ofKind, asFound, numbered, countOf}
+use Rattle.fetch.specs.Engine.{blockEnd}
 use Rattle.fetch.specs.Fetch.{fieldOf, found, fetched}
 use Rattle.fetch.specs.declared.Kind.{Kind}
 use Rattle.fetch.specs.declared.Kind.the-variants.{Id, Allele, Filter, Info, Format}

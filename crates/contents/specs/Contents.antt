@@ -4,7 +4,8 @@ use Prim.Native.Nat.{ℕ, _-_}
 use mathlib.Core.List.{List, map, flatten}
 use lib.ListN.{drop}
 use Rattle.fixed.specs.declared.Site.{Site}
-use Rattle.record.specs.Shown.{Elements, Pair, Field, Shown, kindOf, elementsOf}
+use Rattle.shown.specs.Shown.{Elements, Pair, Field, Shown, kindOf}
+use Rattle.vectors.specs.Vectors.{elementsOf}
 use Rattle.fetch.specs.Account.{Entry, account, ofKind}
 use Rattle.fetch.specs.declared.Kind.the-variants.{Id, Allele, Filter, Info, Format}
 

@@ -5,10 +5,10 @@ use mathlib.Core.Path.{_≡_}
 use mathlib.Core.List.{List, [], _∷_}
 use lib.ListN.{length, getD}
 use Rattle.values.specs.Answers.{refusal}
-use Rattle.fixed.specs.declared.Facts.{Facts}
+use Rattle.facts.specs.declared.Facts.{Facts}
 use Rattle.fixed.specs.declared.Site.{Site}
-use Rattle.record.specs.Shown.{integers, Pair, Field, kindOf}
-use Rattle.fetch.specs.Passing.{countOf}
+use Rattle.shown.specs.Shown.{integers, Pair, Field, kindOf}
+use Rattle.fetch.specs.Account.{countOf}
 use Rattle.fetch.specs.Fetch.{found, fetched}
 use Rattle.fetch.specs.declared.Kind.{Kind}
 use Rattle.fetch.specs.declared.Kind.the-variants.{Id, Allele, Filter, Info, Format}

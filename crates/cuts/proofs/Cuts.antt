@@ -20,7 +20,7 @@ use Rattle.capitals.specs.Capitals.{capitals}
 use Rattle.capitals.proofs.Turns.{length-capitals}
 use Rattle.values.specs.Answers.{refusal}
 use Rattle.values.specs.declared.Refusal.{Refusal}
-use Rattle.fixed.specs.declared.Facts.{Facts}
+use Rattle.facts.specs.declared.Facts.{Facts}
 use Rattle.fixed.specs.declared.Site.{Site}
 use Rattle.genotypes.specs.declared.Gt.{Gt}
 use Rattle.record.specs.Reading.{reading}
@@ -34,7 +34,7 @@ use Rattle.frames.specs.Text.{noLine, badLine}
 use Rattle.frames.specs.Frames.{textRoom, said, saidIn}
 use Rattle.frames.specs.declared.Answer.the-variants.{Text}
 use Rattle.cuts.specs.Cuts.{recordText, cutReading, cutRecord, cutLine, keptReading, keptRecord, lineRoom}
-use Rattle.cuts.specs.Followed.{followed}
+use Rattle.cuts.specs.Engine.{followed}
 use Rattle.cuts.proofs.Fronts.{accepted-followed, accepted-inside}
 use Rattle.cuts.proofs.Shorter.{chosen-shorter}
 

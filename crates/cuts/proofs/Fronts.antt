@@ -1,19 +1,19 @@
 -- An accepted record's length is that of its blocks, and lies in the list; so bytes follow it where they follow its blocks.
--- Rests on what an accepted record's front says, and on specs/Followed.
+-- Rests on what an accepted record's front says, and on specs/Engine.
 use mathlib.Core.Path.{_≡_, ap}
 use mathlib.Core.List.{List}
 use Prim.Native.Nat.{ℕ, _≤_}
 use native.Mathlib.Omega.{arith}
 use lib.Dec.{ltb}
 use lib.ListN.{length}
-use Rattle.fixed.specs.declared.Facts.{Facts}
+use Rattle.facts.specs.declared.Facts.{Facts}
 use Rattle.fixed.specs.declared.Site.{Site}
 use Rattle.fixed.proofs.Fits.{fits-blocks}
 use Rattle.genotypes.specs.declared.Gt.{Gt}
 use Rattle.record.specs.Reading.{reading}
 use Rattle.record.specs.declared.Reading.the-variants.{Accepted}
 use Rattle.record.proofs.Accepted.{accepted-fits}
-use Rattle.cuts.specs.Followed.{goesOn, followed}
+use Rattle.cuts.specs.Engine.{goesOn, followed}
 
 -- bytes follow an accepted record where its length is less than the list's
 pub accepted-followed : (f : Facts) (s : List ℕ) (t : Site) (g : Gt) → reading f s ≡ Accepted t g → followed s ≡ ltb (t .length) (length s)

@@ -9,7 +9,7 @@ use lib.Seq.{sets, length-sets}
 use Rattle.words.proofs.Stores.{sets-append}
 use Rattle.stores.specs.Stores.{filled}
 use Rattle.stores.proofs.Room.{filled-room}
-use Rattle.fixed.specs.declared.Facts.{Facts}
+use Rattle.facts.specs.declared.Facts.{Facts}
 use Rattle.hexadecimal.specs.Hexadecimal.{factsOf}
 use Rattle.hexadecimal.specs.declared.FactsLine.the-variants.{Facts as Said}
 use Rattle.capitals.specs.Capitals.{capitals, highFirst, eight}

@@ -10,7 +10,7 @@ use lib.Seq.{sets}
 use Rattle.words.specs.Pick.{pick}
 use Rattle.hexadecimal.specs.Hexadecimal.{frameOf, stored}
 use Rattle.capitals.specs.Capitals.{capitals}
-use Rattle.fixed.specs.declared.Facts.{Facts}
+use Rattle.facts.specs.declared.Facts.{Facts}
 use Rattle.record.specs.Reading.{reading}
 use Rattle.record.specs.declared.Reading.{Reading}
 use Rattle.record.specs.declared.Reading.the-variants.{Accepted, Refused}

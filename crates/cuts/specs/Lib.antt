@@ -1,3 +1,3 @@
 pub mod Cuts
-pub mod Followed
+pub mod Engine
 pub mod Release

@@ -1,5 +1,5 @@
 -- The low bytes of an element of a narrow type, as they are put together with no branch, and of any other. Rests on the definitions of
--- specs/Encode and specs/Marks.
+-- specs/Encode and specs/Engine.
 use mathlib.Core.Path.{_≡_, refl, _∙_}
 use mathlib.Core.Logic.{_≢_}
 use mathlib.Core.Bool.{Bool, true, false}
@@ -11,7 +11,7 @@ use borrow.Author.Tests.{eqb-true, eqb-false, eq-eqb, ne-eqb}
 use Rattle.words.specs.Pick.{pick}
 use Rattle.words.specs.Words.{bytes}
 use Rattle.encode.specs.Encode.{markedAs, narrowed}
-use Rattle.encode.specs.Marks.{isMark}
+use Rattle.encode.specs.Engine.{isMark}
 
 -- both marks of type 3 have the same half, and no other number has it
 pub mark-half : (x : ℕ) → eqb (x / 2) 0x40000000 ≡ isMark x

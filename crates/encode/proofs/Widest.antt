@@ -1,4 +1,4 @@
--- The type that integers take: of one by itself, and of a list, one after the other. Rests on the definitions of specs/Encode and specs/Marks.
+-- The type that integers take: of one by itself, and of a list, one after the other. Rests on the definitions of specs/Encode and specs/Engine.
 use mathlib.Core.Path.{_≡_, refl}
 use mathlib.Core.Logic.{_≢_}
 use mathlib.Core.List.{List, [], _∷_, map}
@@ -18,7 +18,7 @@ use Rattle.words.proofs.Sign.{bits-at}
 use Rattle.types.specs.Elements.{marked, kind, narrowest}
 use Rattle.types.specs.declared.Element.the-variants.{Plain, Missing, End, Reserved}
 use Rattle.encode.specs.Encode.{typeFor, widest}
-use Rattle.encode.specs.Marks.{isMark}
+use Rattle.encode.specs.Engine.{isMark}
 
 -- a number that is neither mark of type 3
 type-plain : (x : ℕ) → x ≢ 0x80000000 → x ≢ 0x80000001 → typeFor (kind 3 x) x ≡ narrowest x

@@ -14,7 +14,7 @@ ghost use Rattle.words.specs.Words.{bytes};
 ghost use Rattle.stores.specs.Stores.{fits, filled};
 ghost use Rattle.types.specs.Rows.{widthOf};
 ghost use Rattle.types.specs.Elements.{kind, narrowest};
-ghost use Rattle.encode.specs.Marks.{isMark};
+ghost use Rattle.encode.specs.Engine.{isMark};
 ghost use Rattle.encode.specs.Encode.{integerBytes, descriptorBytes, typeFor, widest, narrowed, elementsBytes};
 
 // The narrowest type that takes an integer, given by its 32 bits: with its range a code is put together without a bound of its own.

@@ -1,5 +1,5 @@
 -- The fields of a kind, out of a record's account: those that the steps to the first of them lead to, and so many from there on. So the one of a
--- number is the field that fetching comes to, on any site and any bytes. Rests on specs/Account, specs/Passing and proofs/Inside.
+-- number is the field that fetching comes to, on any site and any bytes. Rests on specs/Account, specs/Engine and proofs/Inside.
 use mathlib.Core.Path.{_≡_, refl, sym, _∙_, ap}
 use mathlib.Core.List.{List, [], _∷_, _++_, append-nil}
 use mathlib.Core.Bool.{Bool, true, false}
@@ -16,8 +16,8 @@ use Rattle.site.specs.Steps.{then, times}
 use Rattle.site.specs.declared.Step.{Step}
 use Rattle.site.specs.declared.Step.the-variants.{At, Refused as NoStep}
 use Rattle.fetch.specs.Fields.{fieldAt, foundInside}
-use Rattle.fetch.specs.Account.{Entry, entered, fieldsOf, siteKinds, siteFields, genotypeFields, account, isKind, ofKind, numbered}
-use Rattle.fetch.specs.Passing.{fieldStep, passing, past, toFilter, toInfo, toFirst, toField, thenField, fieldIn, isFormat, blockFrom, blockOf, countOf, orNone}
+use Rattle.fetch.specs.Account.{Entry, entered, fieldsOf, siteKinds, siteFields, genotypeFields, account, isKind, ofKind, numbered, countOf}
+use Rattle.fetch.specs.Engine.{fieldStep, passing, past, toFilter, toInfo, toFirst, toField, thenField, fieldIn, isFormat, blockFrom, blockOf, orNone}
 use Rattle.fetch.specs.Fetch.{fieldOf}
 use Rattle.fetch.specs.declared.Kind.{Kind}
 use Rattle.fetch.specs.declared.Kind.the-variants.{Id, Allele, Filter, Info, Format}

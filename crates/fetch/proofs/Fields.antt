@@ -12,7 +12,7 @@ use Rattle.site.specs.declared.Step.{Step}
 use Rattle.site.specs.declared.Step.the-variants.{At, Refused as NoStep}
 use Rattle.site.proofs.Turns.{times-turn}
 use Rattle.fetch.specs.Fields.{valueField, foundInside}
-use Rattle.fetch.specs.Passing.{fieldStep, passing, past, orNone}
+use Rattle.fetch.specs.Engine.{fieldStep, passing, past, orNone}
 use Rattle.fetch.specs.declared.Kind.{Kind}
 use Rattle.fetch.specs.declared.Found.{Found}
 use Rattle.fetch.specs.declared.Found.the-variants.{Field, Refused}

@@ -24,7 +24,7 @@ use Rattle.site.specs.Steps.{then, times}
 use Rattle.site.specs.declared.Step.{Step}
 use Rattle.site.specs.declared.Step.the-variants.{At, Refused as NoStep}
 use Rattle.fetch.specs.Fields.{valueField, pairField, alone, paired, fieldAt, foundInside}
-use Rattle.fetch.specs.Passing.{fieldStep, passing, past}
+use Rattle.fetch.specs.Engine.{fieldStep, passing, past}
 use Rattle.fetch.specs.declared.Found.{Found}
 use Rattle.fetch.specs.declared.Found.the-variants.{Field, Refused}
 use Rattle.fetch.proofs.Fields.{value-found, found-on}

@@ -64,6 +64,14 @@ unfoldable pub ofKind : Kind → List Entry → List Entry
 ofKind kind [] = []
 ofKind kind (e ∷ es) = let rest = ofKind kind es in pick (isKind kind (e .kind)) (e ∷ rest) rest
 
+-- how many fields of a kind a record has
+abbrev pub countOf : Kind → Site → ℕ
+countOf Id t = 1
+countOf Allele t = t .alleles
+countOf Filter t = 1
+countOf Info t = t .infos
+countOf Format t = t .formats
+
 -- the one of a number, counted from 0; 16 where there is none of that number
 abbrev pub asFound : Entry → Found
 asFound e = Field (e .key) (e .code) (e .len) (e .place) (e .stop)

@@ -1,4 +1,4 @@
 pub mod Fields
 pub mod Account
-pub mod Passing
+pub mod Engine
 pub mod Fetch

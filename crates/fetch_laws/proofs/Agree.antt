@@ -28,7 +28,7 @@ use Rattle.site.specs.Site.{info, infoValue}
 use Rattle.site.specs.declared.Step.{Step}
 use Rattle.site.specs.declared.Step.the-variants.{At, Refused as NoStep}
 use Rattle.fetch.specs.Fields.{valueField, pairField, alone, paired}
-use Rattle.fetch.specs.Passing.{fieldStep, passing}
+use Rattle.fetch.specs.Engine.{fieldStep, passing}
 use Rattle.fetch.specs.declared.Kind.the-variants.{Id, Allele, Filter, Info}
 
 -- a value's field is passed as the value is

@@ -7,7 +7,7 @@ use native.Mathlib.Omega.{arith}
 use lib.ListN.{length, take, drop, length-take, length-drop}
 use lib.Seq.{take-take}
 use Rattle.words.proofs.Places.{drop-on}
-use Rattle.fixed.specs.declared.Facts.{Facts}
+use Rattle.facts.specs.declared.Facts.{Facts}
 use Rattle.fixed.specs.declared.Site.{Site}
 use Rattle.genotypes.specs.declared.Gt.{Gt}
 use Rattle.site.specs.declared.Step.the-variants.{At}
@@ -15,7 +15,8 @@ use Rattle.record.specs.Reading.{reading}
 use Rattle.record.specs.declared.Reading.the-variants.{Accepted}
 use Rattle.record.proofs.Accepted.{accepted}
 use Rattle.fetch.specs.Fields.{fieldAt, foundInside}
-use Rattle.fetch.specs.Passing.{fieldStep, passing, countOf, blockFrom, blockEnd}
+use Rattle.fetch.specs.Engine.{fieldStep, passing, blockFrom, blockEnd}
+use Rattle.fetch.specs.Account.{countOf}
 use Rattle.fetch.specs.Fetch.{found, fetched, partOf}
 use Rattle.fetch.specs.declared.Kind.{Kind}
 use Rattle.fetch.specs.declared.Found.{Found}

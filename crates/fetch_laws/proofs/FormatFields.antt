@@ -28,7 +28,7 @@ use Rattle.genotypes.specs.Formats.{formats, afterKey, afterValue, noGenotypes,
 use Rattle.genotypes.specs.declared.Gt.{Gt}
 use Rattle.genotypes.specs.declared.Genotypes.the-variants.{Sound}
 use Rattle.fetch.specs.Fields.{valueField, pairField, paired}
-use Rattle.fetch.specs.Passing.{fieldStep, passing}
+use Rattle.fetch.specs.Engine.{fieldStep, passing}
 use Rattle.fetch.specs.declared.Found.the-variants.{Field}
 use Rattle.fetch.specs.declared.Kind.the-variants.{Format}
 use Rattle.fetch.proofs.Inside.{keyed-inside, drop-past}

@@ -16,7 +16,7 @@ use Rattle.words.specs.Pick.{pick}
 use Rattle.words.proofs.Places.{drop-on}
 use Rattle.fixed.specs.Layout.{idAt}
 use Rattle.fixed.specs.Fixed.{fixed}
-use Rattle.fixed.specs.declared.Facts.{Facts}
+use Rattle.facts.specs.declared.Facts.{Facts}
 use Rattle.fixed.specs.declared.Site.{Site}
 use Rattle.fixed.specs.declared.Fixed.the-variants.{Site as Front}
 use Rattle.fixed.proofs.Fits.{fixed-fits, people-given}

@@ -9,7 +9,7 @@ use lib.ListN.{drop}
 use borrow.Author.Tests.{le-leb, lt-leb}
 use Rattle.values.specs.Answers.{refusal}
 use Rattle.fixed.specs.Layout.{idAt}
-use Rattle.fixed.specs.declared.Facts.{Facts}
+use Rattle.facts.specs.declared.Facts.{Facts}
 use Rattle.fixed.specs.declared.Site.{Site}
 use Rattle.fixed.proofs.Fits.{people-given}
 use Rattle.genotypes.specs.Formats.{noGt}
@@ -24,7 +24,8 @@ use Rattle.record.specs.Reading.{reading, siteOf, genotypesOf}
 use Rattle.record.specs.declared.Reading.the-variants.{Accepted}
 use Rattle.record.proofs.Accepted.{Read, accepted, accepted-fits}
 use Rattle.fetch.specs.Fields.{fieldAt}
-use Rattle.fetch.specs.Passing.{fieldStep, passing, past, toFilter, toInfo, toFirst, toField, fieldIn, blockFrom, blockOf, countOf, orNone}
+use Rattle.fetch.specs.Engine.{fieldStep, passing, past, toFilter, toInfo, toFirst, toField, fieldIn, blockFrom, blockOf, orNone}
+use Rattle.fetch.specs.Account.{countOf}
 use Rattle.fetch.specs.Fetch.{found}
 use Rattle.fetch.specs.declared.Kind.{Kind}
 use Rattle.fetch.specs.declared.Kind.the-variants.{Id, Allele, Filter, Info, Format}

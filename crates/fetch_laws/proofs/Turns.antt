@@ -6,7 +6,7 @@ use Prim.Native.Nat.{ℕ, zero, suc, _+_, _-_, _≤_}
 use native.Mathlib.Nat.{sub-self}
 use native.Mathlib.Omega.{arith}
 use lib.ListN.{length, drop, replicate, length-drop}
-use Rattle.fixed.specs.declared.Facts.{Facts}
+use Rattle.facts.specs.declared.Facts.{Facts}
 use Rattle.fixed.specs.declared.Site.{Site}
 use Rattle.site.specs.Steps.{then, times, ended}
 use Rattle.site.specs.Alleles.{allele}
@@ -16,7 +16,7 @@ use Rattle.site.specs.declared.Step.{Step}
 use Rattle.site.specs.declared.Step.the-variants.{At, Refused as NoStep}
 use Rattle.fetch.specs.Fields.{fieldAt, foundInside}
 use Rattle.fetch.specs.Account.{entered, fieldsOf, siteKinds}
-use Rattle.fetch.specs.Passing.{fieldStep, passing}
+use Rattle.fetch.specs.Engine.{fieldStep, passing}
 use Rattle.fetch.specs.declared.Kind.{Kind}
 use Rattle.fetch.specs.declared.Kind.the-variants.{Id, Allele, Filter, Info}
 use Rattle.fetch.specs.declared.Found.{Found}

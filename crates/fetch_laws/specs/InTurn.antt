@@ -14,7 +14,7 @@ use Rattle.values.specs.declared.Integer.{Integer}
 use Rattle.values.specs.declared.Integer.the-variants.{One, Refused as NoInteger}
 use Rattle.vectors.specs.Sound.{sound}
 use Rattle.fixed.specs.Layout.{idAt}
-use Rattle.fixed.specs.declared.Facts.{Facts}
+use Rattle.facts.specs.declared.Facts.{Facts}
 use Rattle.fixed.specs.declared.Site.{Site}
 use Rattle.site.specs.Steps.{noStep, then, valueStep}
 use Rattle.site.specs.Alleles.{allele}

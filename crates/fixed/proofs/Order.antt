@@ -9,7 +9,7 @@ use Rattle.words.specs.Pick.{pick}
 use Rattle.words.specs.Words.{outside}
 use Rattle.fixed.specs.Layout.{chromAt, posAt, rlenAt, qualAt, countsAt, allelesIn, field, posWrong, rlenWrong, qualWrong, countsWrong}
 use Rattle.fixed.specs.Fixed.{wrongAt}
-use Rattle.fixed.specs.declared.Facts.{Facts}
+use Rattle.facts.specs.declared.Facts.{Facts}
 
 -- each field that stands before a place keeps its rule; the people stand before none
 pub record RightBefore (f : Facts) (s : List ℕ) (p : ℕ) : Type 0 where

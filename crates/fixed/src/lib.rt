@@ -4,15 +4,8 @@ ghost use mathlib.Core.Path.{_≡_};
 ghost use lib.ListN.{length};
 ghost use Rattle.fixed.specs.Layout.{field, posWrong, peopleWrong, qualWrong};
 ghost use Rattle.fixed.specs.Fixed.{blocks, wrongAt, siteAt, fixed, blocksRefusal, blocksInside, fixedInside};
+use facts::Facts;
 use values::Refusal;
-
-// What the header says: strings in the dictionary, contigs, people, and the dictionary offset of GT.
-pub struct Facts {
-    pub strings: u32,
-    pub contigs: u32,
-    pub people: u32,
-    pub gt: u32,
-}
 
 // The site of a record: its length, the place where its genotype block begins, the fixed fields and the four counts.
 // POS is kept as its 32 bits, and QUAL is never anything else.

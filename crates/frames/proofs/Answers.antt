@@ -12,7 +12,7 @@ use Rattle.hexadecimal.specs.Hexadecimal.{answered, frameOf, stored}
 use Rattle.hexadecimal.specs.declared.Frame.the-variants.{Bytes, Bad, NoRoom}
 use borrow.Author.Tests.{lt-ltb, le-ltb}
 use Rattle.hexadecimal.proofs.Frames.{told}
-use Rattle.fixed.specs.declared.Facts.{Facts}
+use Rattle.facts.specs.declared.Facts.{Facts}
 use Rattle.fixed.specs.declared.Site.{Site}
 use Rattle.genotypes.specs.declared.Gt.{Gt}
 use Rattle.tally.specs.Tally.{callsOf}

@@ -8,7 +8,7 @@ ghost use lib.Seq.{sets};
 ghost use Rattle.frames.specs.Text.{spaced, line, badLine, noLine};
 ghost use Rattle.frames.specs.Frames.{acceptedLine, recordLine, said, saidIn, lineSaid, lineSaidIn, textInside, decoded};
 use decimal::Put;
-use fixed::Facts;
+use facts::Facts;
 use fixed::Site;
 use genotypes::Gt;
 use hexadecimal::Frame;

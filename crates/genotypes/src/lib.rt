@@ -6,7 +6,7 @@ ghost use lib.ListN.{drop, length, take};
 ghost use mathlib.Core.List.{[]};
 ghost use Rattle.words.specs.Lists.{among};
 ghost use Rattle.genotypes.specs.Formats.{roleOf, gtNow, noGt, keyRefused, valueRefused, formats};
-use fixed::Facts;
+use facts::Facts;
 use types::Use;
 use values::Integer;
 use values::Refusal;

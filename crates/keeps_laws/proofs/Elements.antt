@@ -20,7 +20,7 @@ use Rattle.types.specs.declared.Element.the-variants.{Plain, Missing, End, Rese
 use Rattle.vectors.specs.Sound.{highest, codeMost, mostOf}
 use Rattle.vectors.proofs.Codes.{code-sound, sound-code}
 use Rattle.encode.specs.Encode.{typeFor, widest}
-use Rattle.record.specs.Shown.{kindOf}
+use Rattle.shown.specs.Shown.{kindOf}
 use Rattle.build_rules.specs.Values.{givenAs}
 use Rattle.build_laws.specs.Records.{All, mostElement}
 use Rattle.build_laws.specs.Widths.{between}

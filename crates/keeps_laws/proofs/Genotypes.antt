@@ -10,20 +10,20 @@ use lib.ListN.{length, drop, replicate, length-append}
 use Rattle.words.specs.Words.{Bytes}
 use Rattle.values.specs.Values.{present}
 use Rattle.values.specs.declared.Value.the-variants.{Present}
-use Rattle.fixed.specs.declared.Facts.{Facts}
+use Rattle.facts.specs.declared.Facts.{Facts}
 use Rattle.genotypes.specs.Formats.{formats, roleOf}
 use Rattle.genotypes.specs.declared.Gt.{Gt}
 use Rattle.genotypes.specs.declared.Genotypes.the-variants.{Sound}
 use Rattle.encode.specs.Encode.{integerBytes}
-use Rattle.record.specs.Shown.{Field, kindOf}
-use Rattle.build_append.specs.Values.{givenBytes, pairBytes}
-use Rattle.build.specs.Turns.{isIntegers}
+use Rattle.shown.specs.Shown.{Field, kindOf, isIntegers}
+use Rattle.shown.specs.Values.{givenBytes, pairBytes}
 use Rattle.fetch.specs.declared.Kind.the-variants.{Format}
 use Rattle.fetch.proofs.Inside.{drop-past}
 use Rattle.fetch_laws.proofs.Agree.{sound-there, sound-judged}
 use Rattle.fetch_laws.proofs.FormatFields.{JudgedField, formats-field}
 use Rattle.contents.proofs.Blocks.{formatOf, itemsOf}
-use Rattle.build_laws.specs.Records.{joined, formatBytes, KeepsField, KeepsFields}
+use Rattle.build_laws.specs.Records.{KeepsField, KeepsFields}
+use Rattle.shown.specs.Records.{joined, formatBytes}
 use Rattle.choose_laws.proofs.Stored.{Bytes-drop}
 use Rattle.keeps_laws.proofs.Descriptors.{key-keeps}
 use Rattle.keeps_laws.proofs.Values.{elementsFrom, value-keeps, gt-types}

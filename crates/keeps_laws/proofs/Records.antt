@@ -11,7 +11,7 @@ use lib.Seq.{length-take-le}
 use borrow.Author.Tests.{eqb-false, le-ltb}
 use Rattle.words.specs.Words.{Bytes}
 use Rattle.fixed.specs.Layout.{chromAt, posAt, rlenAt, qualAt, countsAt, peopleAt, idAt, field}
-use Rattle.fixed.specs.declared.Facts.{Facts}
+use Rattle.facts.specs.declared.Facts.{Facts}
 use Rattle.fixed.specs.declared.Site.{Site}
 use Rattle.fixed.proofs.Fits.{Fits, people-given}
 use Rattle.build_front.specs.Front.{fieldsNumber}
@@ -20,18 +20,19 @@ use Rattle.site.specs.declared.Step.the-variants.{At}
 use Rattle.genotypes.specs.Formats.{noGt}
 use Rattle.genotypes.specs.declared.Gt.{Gt}
 use Rattle.record.specs.Reading.{reading, siteOf, genotypesOf}
-use Rattle.record.specs.Shown.{integers, text, Pair}
+use Rattle.shown.specs.Shown.{integers, text, Pair}
 use Rattle.record.specs.declared.Reading.the-variants.{Accepted}
 use Rattle.record.proofs.Accepted.{accepted, accepted-fits}
 use Rattle.build_given.specs.Given.{filtersNumber}
-use Rattle.build_append.specs.Values.{givenBytes}
+use Rattle.shown.specs.Values.{givenBytes}
 use Rattle.build_rules.specs.Values.{any, givenNumber}
 use Rattle.fetch.specs.Fields.{alone}
 use Rattle.fetch.proofs.Inside.{drop-past}
 use Rattle.fetch_laws.proofs.There.{site-walk}
 use Rattle.contents.specs.Contents.{shownOf}
 use Rattle.contents.proofs.Blocks.{itemsOf, eachIn, blocksShown, shown-blocks}
-use Rattle.build_laws.specs.Records.{joined, textBytes, infoBytes, siteBytes, genotypeBytes, recordBytes, All, Fit, KeepsAllele, KeepsInfo, Keeps}
+use Rattle.build_laws.specs.Records.{All, Fit, KeepsAllele, KeepsInfo, Keeps}
+use Rattle.shown.specs.Records.{joined, textBytes, infoBytes, siteBytes, genotypeBytes, recordBytes}
 use Rattle.build_laws.specs.Runs.{shownAs}
 use Rattle.build_laws.specs.Builds.{Tight, Builds}
 use Rattle.build_laws.proofs.Front.{length-recordBytes}

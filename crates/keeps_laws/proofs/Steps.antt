@@ -19,7 +19,7 @@ use Rattle.values.specs.declared.Integer.{Integer}
 use Rattle.values.specs.declared.Integer.the-variants.{One, Refused as NoInteger}
 use Rattle.values.specs.declared.Value.{Value}
 use Rattle.values.specs.declared.Value.the-variants.{Present, Refused as NoValue}
-use Rattle.vectors.specs.Vectors.{unsound}
+use Rattle.vectors.specs.Vectors.{unsound, elementsOf}
 use Rattle.vectors.specs.Sound.{sound}
 use Rattle.vectors.specs.declared.Judged.{Judged}
 use Rattle.vectors.specs.declared.Judged.the-variants.{Sound, Refused as Unsound}
@@ -29,9 +29,9 @@ use Rattle.site.specs.Filters.{filter, filterValue, filters, filtered}
 use Rattle.site.specs.Site.{info, infoValue}
 use Rattle.site.specs.declared.Step.the-variants.{At}
 use Rattle.encode.specs.Encode.{integerBytes}
-use Rattle.record.specs.Shown.{integers, text, Pair, kindOf, elementsOf}
+use Rattle.shown.specs.Shown.{integers, text, Pair, kindOf}
 use Rattle.build_given.specs.Given.{numberOf, filtersNumber, alleleNumber}
-use Rattle.build_append.specs.Values.{givenBytes, pairBytes}
+use Rattle.shown.specs.Values.{givenBytes, pairBytes}
 use Rattle.build_rules.specs.Values.{any, givenAs, givenNumber}
 use Rattle.fetch.specs.Fields.{alone, paired}
 use Rattle.fetch.specs.declared.Kind.the-variants.{Allele as AlleleKind, Info as InfoKind}
@@ -40,7 +40,8 @@ use Rattle.fetch_laws.proofs.Agree.{sound-there, sound-judged, went}
 use Rattle.fetch_laws.proofs.FormatFields.{keyed-integer}
 use Rattle.contents.proofs.Elements.{elementsOf-take}
 use Rattle.contents.proofs.Blocks.{bytesOf, pairOf, itemsOf}
-use Rattle.build_laws.specs.Records.{joined, textBytes, infoBytes, All, Fit, KeepsAllele, KeepsInfo}
+use Rattle.build_laws.specs.Records.{All, Fit, KeepsAllele, KeepsInfo}
+use Rattle.shown.specs.Records.{joined, textBytes, infoBytes}
 use Rattle.build_laws.proofs.Values.{number-filters}
 use Rattle.choose_laws.proofs.Stored.{Bytes-drop}
 use Rattle.keeps_laws.proofs.Descriptors.{key-keeps, not-outside}

@@ -19,14 +19,14 @@ use Rattle.types.specs.declared.Use.the-variants.{Id, Allele, Filter, Gt}
 use Rattle.types.proofs.Table.{whole, orBare, rows-rule}
 use Rattle.values.specs.Values.{present}
 use Rattle.values.specs.declared.Value.the-variants.{Present}
-use Rattle.vectors.specs.Vectors.{numbers, judged}
+use Rattle.vectors.specs.Vectors.{numbers, judged, elementsOf}
 use Rattle.vectors.specs.Sound.{mostOf}
 use Rattle.vectors.specs.declared.Judged.the-variants.{Sound}
 use Rattle.encode.specs.Encode.{typeFor, widest}
 use Rattle.encode.proofs.Lengths.{length-valueBytes}
-use Rattle.record.specs.Shown.{integers, kindOf, elementsOf}
+use Rattle.shown.specs.Shown.{integers, kindOf}
 use Rattle.build_given.specs.Given.{vectorsGiven, elementsNumber}
-use Rattle.build_append.specs.Values.{writtenAs, givenBytes}
+use Rattle.shown.specs.Values.{writtenAs, givenBytes}
 use Rattle.build_rules.specs.Values.{givenAs, givenNumber}
 use Rattle.fetch_laws.proofs.Fronts.{numbers-take, shownNumbers-numbers}
 use Rattle.fetch_laws.proofs.Present.{There as Found, present-typed}

@@ -23,7 +23,7 @@ use Rattle.vectors.specs.Vectors.{numbers, elementTurn, follow, vector, vectors
 use Rattle.vectors.specs.declared.Judged.{Judged}
 use Rattle.vectors.specs.declared.Judged.the-variants.{Sound}
 use Rattle.encode.specs.Encode.{typeFor}
-use Rattle.record.specs.Shown.{kindOf}
+use Rattle.shown.specs.Shown.{kindOf}
 use Rattle.build_given.specs.Given.{vectorsGiven, elementsNumber}
 use Rattle.build_rules.specs.Values.{givenAs}
 use Rattle.build_laws.specs.Records.{All, Fit}

@@ -2,14 +2,14 @@
 -- record shows.
 use mathlib.Core.Path.{_≡_}
 use lib.ListN.{length}
-use Rattle.fixed.specs.declared.Facts.{Facts}
+use Rattle.facts.specs.declared.Facts.{Facts}
 use Rattle.fixed.specs.declared.Site.{Site}
 use Rattle.genotypes.specs.declared.Gt.{Gt}
 use Rattle.record.specs.Reading.{reading}
-use Rattle.record.specs.Shown.{Shown}
+use Rattle.shown.specs.Shown.{Shown}
 use Rattle.record.specs.declared.Reading.the-variants.{Accepted}
 use Rattle.contents.specs.Contents.{shownOf}
-use Rattle.build_laws.specs.Records.{recordBytes}
+use Rattle.shown.specs.Records.{recordBytes}
 
 -- the record of what is shown is accepted to its last byte, is of as many people as are given, and shows the same
 pub record Tightened (f : Facts) (r : Shown) : Type 0 where

@@ -11,7 +11,7 @@ use Rattle.words.specs.Words.{Bytes}
 use Rattle.values.specs.Answers.{refusal}
 use Rattle.values.specs.Values.{present, described}
 use Rattle.fixed.specs.Layout.{chromAt, posAt, rlenAt, qualAt, countsAt, peopleAt}
-use Rattle.fixed.specs.declared.Facts.{Facts}
+use Rattle.facts.specs.declared.Facts.{Facts}
 use Rattle.fixed.specs.declared.Site.{Site}
 use Rattle.genotypes.specs.declared.Gt.{Gt}
 use Rattle.record.specs.Reading.{reading}

@@ -9,7 +9,7 @@ use Rattle.words.specs.Words.{le, number, bytes, outside}
 use Rattle.types.specs.Rows.{rowOf, widthOf}
 use Rattle.types.specs.Elements.{marked, kind, widened, shown, narrowest}
 use Rattle.values.specs.Values.{integer, trueLength, keyed, mayStand, described, present}
-use Rattle.vectors.specs.Vectors.{numbers, shownNumbers, vector, vectors, judged}
+use Rattle.vectors.specs.Vectors.{numbers, shownNumbers, vector, vectors, judged, elementsOf}
 use Rattle.vectors.specs.Sound.{highest, codeMost, sound}
 use Rattle.fixed.specs.Layout.{mostBytes, field, posWrong, peopleWrong, qualWrong}
 use Rattle.fixed.specs.Fixed.{blocks, wrongAt, siteAt, fixed}
@@ -19,7 +19,6 @@ use Rattle.site.specs.Filters.{filters, filtered, filter}
 use Rattle.site.specs.Site.{info, site}
 use Rattle.genotypes.specs.Formats.{roleOf, gtNow, formats}
 use Rattle.record.specs.Reading.{siteOf, genotypesOf, reading}
-use Rattle.record.specs.Shown.{elementsOf}
 use Rattle.fetch.specs.Fields.{alone, paired}
 use Rattle.fetch.specs.Account.{fieldsOf, siteKinds, siteFields, genotypeFields, account, ofKind, numbered}
 use Rattle.fetch.specs.Fetch.{fieldOf, found, fetched}
@@ -30,11 +29,12 @@ use Rattle.choice.specs.Choice.{chosenParts}
 use Rattle.choose.specs.Chosen.{chosenFields, chosenBlock, chosenSite, chosenRecord}
 use Rattle.encode.specs.Encode.{integerBytes, descriptorBytes, widest, markedAs, narrowed, elementsBytes, valueBytes}
 use Rattle.build_given.specs.Given.{vectorsGiven, elementsNumber, filtersNumber}
-use Rattle.build_append.specs.Values.{givenBytes, pairBytes}
-use Rattle.build_front.specs.Front.{frontBytes, fieldsFilled}
+use Rattle.shown.specs.Values.{givenBytes, pairBytes}
+use Rattle.shown.specs.Front.{frontBytes, fieldsFilled}
 use Rattle.build_rules.specs.Rules.{keyNumber}
 use Rattle.build_rules.specs.Values.{givenNumber}
-use Rattle.build_laws.specs.Records.{joined, siteBytes, genotypeBytes, filledFront, recordBytes, Keeps}
+use Rattle.build_laws.specs.Records.{Keeps}
+use Rattle.shown.specs.Records.{joined, siteBytes, genotypeBytes, filledFront, recordBytes}
 use Rattle.build_laws.specs.Builds.{Tight}
 use Rattle.build_laws.proofs.Builds.{keeps-tight}
 use Rattle.bare_laws.specs.Ones.{valueOne, pairOne, onesOf, withOnes}

@@ -2,7 +2,7 @@
 use mathlib.Core.Path.{_≡_}
 use mathlib.Core.List.{List, [], _∷_}
 use Prim.Native.Nat.{ℕ}
-use Rattle.build_append.specs.Values.{writtenAs}
+use Rattle.shown.specs.Values.{writtenAs}
 use Rattle.build_rules.specs.Values.{givenAs}
 use Rattle.build_laws.specs.Records.{All}
 use Rattle.build_laws.specs.Widths.{shownAgain}

@@ -7,7 +7,7 @@ use mathlib.Core.Logic.{_≢_}
 use mathlib.Core.List.{List, [], _++_, map}
 use lib.ListN.{replicate}
 use Rattle.fixed.specs.Fixed.{fixed}
-use Rattle.fixed.specs.declared.Facts.{Facts}
+use Rattle.facts.specs.declared.Facts.{Facts}
 use Rattle.fixed.specs.declared.Site.{Site}
 use Rattle.fixed.specs.declared.Fixed.the-variants.{Site as Front}
 use Rattle.site.specs.Site.{site}

@@ -7,7 +7,7 @@ use lib.ListN.{replicate}
 use Rattle.fixed.specs.declared.Site.{Site}
 use Rattle.genotypes.specs.Formats.{gtAt}
 use Rattle.record.specs.Reading.{reading}
-use Rattle.record.specs.Shown.{Shown, integers}
+use Rattle.shown.specs.Shown.{Shown, integers}
 use Rattle.record.specs.declared.Reading.the-variants.{Accepted}
 use Rattle.fetch.specs.Fetch.{found, fetched}
 use Rattle.fetch.specs.declared.Kind.the-variants.{Filter, Info, Format}

@@ -7,16 +7,17 @@ use mathlib.Core.List.{List}
 use lib.Dec.{leb}
 use lib.ListN.{length, drop}
 use Rattle.types.specs.Elements.{kind, narrowest}
-use Rattle.fixed.specs.declared.Facts.{Facts}
+use Rattle.facts.specs.declared.Facts.{Facts}
 use Rattle.fixed.specs.declared.Site.{Site}
 use Rattle.genotypes.specs.declared.Gt.{Gt}
 use Rattle.record.specs.Reading.{reading}
-use Rattle.record.specs.Shown.{Kind, Shown}
+use Rattle.shown.specs.Shown.{Kind, Shown}
 use Rattle.record.specs.declared.Reading.the-variants.{Accepted}
 use Rattle.contents.specs.Contents.{shownOf}
 use Rattle.encode.specs.Encode.{typeFor}
-use Rattle.build_append.specs.Values.{writtenAs}
-use Rattle.build_laws.specs.Records.{recordBytes, All, Fit, Keeps}
+use Rattle.shown.specs.Values.{writtenAs}
+use Rattle.build_laws.specs.Records.{All, Fit, Keeps}
+use Rattle.shown.specs.Records.{recordBytes}
 use Rattle.build_laws.specs.Runs.{Turn, turnsOf, gives, FitTurn, Finished}
 use Rattle.build_laws.specs.Builds.{wrote, ReadsBack, Tight, Builds}
 use Rattle.build_laws.specs.Widths.{between, shownAgain}

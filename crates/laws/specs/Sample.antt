@@ -4,17 +4,17 @@ use mathlib.Core.Path.{_≡_}
 use mathlib.Core.List.{List, [], _∷_, _++_}
 use Prim.Native.Nat.{ℕ}
 use lib.ListN.{replicate}
-use Rattle.fixed.specs.declared.Facts.{Facts}
+use Rattle.facts.specs.declared.Facts.{Facts}
 use Rattle.fixed.specs.declared.Site.{Site}
 use Rattle.genotypes.specs.Formats.{gtAt}
 use Rattle.record.specs.Reading.{reading}
-use Rattle.record.specs.Shown.{Shown, Pair, Field, integers}
+use Rattle.shown.specs.Shown.{Shown, Pair, Field, integers}
 use Rattle.record.specs.declared.Reading.the-variants.{Accepted}
 use Rattle.contents.specs.Contents.{shownOf}
 use Rattle.tally.specs.Tally.{tallied}
 use Rattle.tally.specs.declared.Counting.the-variants.{Counted}
 use Rattle.frames.specs.Frames.{recordLine}
-use Rattle.build_laws.specs.Records.{recordBytes}
+use Rattle.shown.specs.Records.{recordBytes}
 use Rattle.build_laws.specs.Builds.{Tight}
 
 -- four strings, one contig, two people, GT at offset 3

@@ -5,13 +5,14 @@ use mathlib.Core.Path.{_≡_}
 use mathlib.Core.List.{List}
 use lib.ListN.{length}
 use Rattle.words.specs.Words.{Bytes}
-use Rattle.fixed.specs.declared.Facts.{Facts}
+use Rattle.facts.specs.declared.Facts.{Facts}
 use Rattle.fixed.specs.declared.Site.{Site}
 use Rattle.genotypes.specs.declared.Gt.{Gt}
 use Rattle.record.specs.Reading.{reading}
 use Rattle.record.specs.declared.Reading.the-variants.{Accepted}
 use Rattle.contents.specs.Contents.{shownOf}
-use Rattle.build_laws.specs.Records.{recordBytes, Keeps}
+use Rattle.build_laws.specs.Records.{Keeps}
+use Rattle.shown.specs.Records.{recordBytes}
 use Rattle.build_laws.specs.Builds.{Tight, Builds}
 use Rattle.keeps_laws.specs.Tightened.{Tightened}
 

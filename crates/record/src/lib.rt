@@ -3,7 +3,7 @@
 ghost use mathlib.Core.Path.{_≡_};
 ghost use lib.ListN.{length};
 ghost use Rattle.record.specs.Reading.{reading, fixedRefused, siteRefused, genotypesRefused, readingRefusal, readingInside};
-use fixed::Facts;
+use facts::Facts;
 use fixed::Fixed;
 use fixed::Site;
 use genotypes::Genotypes;

@@ -1,5 +1,5 @@
 -- The first number of a list that is outside, or stood earlier: one turn of the loops, and the index that all turns come to. Rests on
--- specs/Repeats and specs/Windows.
+-- specs/Repeats and specs/Engine.
 use mathlib.Core.Path.{_≡_, refl, sym, _∙_, ap}
 use mathlib.Core.Logic.{_⊎_, inl, inr, ⊎-elim}
 use mathlib.Core.List.{List, [], _∷_, map}
@@ -16,7 +16,7 @@ use Rattle.words.specs.Pick.{pick}
 use Rattle.words.specs.Words.{outside}
 use Rattle.words.proofs.Places.{front}
 use Rattle.repeats.specs.Repeats.{firstOutside, repeatAfter, firstRepeat}
-use Rattle.repeats.specs.Windows.{earlier, stood, UpTo, Bounded, Below}
+use Rattle.repeats.specs.Engine.{earlier, stood, UpTo, Bounded, Below}
 
 -- the first outside, where numbers are left
 pub outside-turn : (xs : List ℕ) (size i : ℕ) → i < length xs

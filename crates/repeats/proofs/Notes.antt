@@ -1,4 +1,4 @@
--- A window's bits say which of its offsets are among some numbers. Rests on specs/Windows and proofs/Bits.
+-- A window's bits say which of its offsets are among some numbers. Rests on specs/Engine and proofs/Bits.
 use mathlib.Core.Path.{_≡_, refl, sym, _∙_}
 use mathlib.Core.Logic.{_≢_}
 use mathlib.Core.List.{List, [], _∷_}
@@ -13,7 +13,7 @@ use lib.Seq.{getD-set-same, getD-set-other}
 use borrow.Author.Tests.{eq-eqb, ne-eqb, eqb-true, eqb-false}
 use Rattle.words.specs.Lists.{among}
 use Rattle.words.specs.Pick.{pick}
-use Rattle.repeats.specs.Windows.{earlier, stood, Fresh, held, withBit, noted, noting}
+use Rattle.repeats.specs.Engine.{earlier, stood, Fresh, held, withBit, noted, noting}
 use Rattle.repeats.proofs.Bits.{set-same, set-other}
 use Rattle.repeats.proofs.Lists.{onward}
 

@@ -9,7 +9,7 @@ ghost use mir.Val.{ofZ};
 ghost use Rattle.types.specs.Rows.{widthOf};
 ghost use Rattle.words.specs.Lists.{among};
 ghost use Rattle.repeats.specs.Repeats.{shownElements, firstOutside, firstRepeat};
-ghost use Rattle.repeats.specs.Windows.{earlier, few, UpTo, noted, noting, Bounded};
+ghost use Rattle.repeats.specs.Engine.{earlier, few, UpTo, noted, noting, Bounded};
 
 // Notes an offset in a window's bits, where it is one of the window's; whether it was there already.
 fn note(bits: &mut [u32], window: u32, x: u32) -> bool

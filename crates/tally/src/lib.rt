@@ -3,7 +3,7 @@
 ghost use mathlib.Core.Path.{_≡_};
 ghost use Rattle.tally.specs.Tally.{nobody, callsOf, refusedTally, tallied};
 use calls::Calls;
-use fixed::Facts;
+use facts::Facts;
 use fixed::Site;
 use genotypes::Gt;
 use record::Reading;

@@ -1,4 +1,4 @@
--- Elements that pass go on, and vectors of nothing else are sound. Rests on specs/Plain and on the turns.
+-- Elements that pass go on, and vectors of nothing else are sound. Rests on specs/Engine and on the turns.
 use mathlib.Core.Path.{_≡_, refl}
 use mathlib.Core.List.{List, [], _∷_}
 use mathlib.Core.Bool.{Bool, true, false, _&&_}
@@ -16,7 +16,7 @@ use Rattle.types.specs.Rows.{widthOf, rowOf}
 use Rattle.types.specs.Elements.{kind, marked}
 use Rattle.types.specs.declared.Element.{Element}
 use Rattle.types.specs.declared.Element.the-variants.{Plain, Missing, End, Reserved}
-use Rattle.vectors.specs.Plain.{passed, allPassed, AllOn}
+use Rattle.vectors.specs.Engine.{passed, allPassed, AllOn}
 use Rattle.vectors.specs.Vectors.{numbers, elementTurn, vector, vectors, andThen}
 use Rattle.vectors.specs.declared.Judged.{Judged}
 use Rattle.vectors.specs.declared.Judged.the-variants.{Sound, Refused as Unsound}

@@ -1,3 +1,3 @@
-pub mod Plain
+pub mod Engine
 pub mod Sound
 pub mod Vectors

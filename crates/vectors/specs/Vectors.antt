@@ -35,6 +35,10 @@ unfoldable pub shownNumbers : ℕ → ℕ → ℕ → List ℕ → List ℕ
 shownNumbers t w zero l = []
 shownNumbers t w (suc n) l = shown t (number w l) ∷ shownNumbers t w n (drop w l)
 
+-- the elements of type t in so many bytes at the front of a list, as they are shown
+unfoldable pub elementsOf : ℕ → ℕ → List ℕ → List ℕ
+elementsOf t size l = shownNumbers t (widthOf t) (size / widthOf t) l
+
 -- an element whose number is x, after an end of vector or not: refused, 9 where it is reserved or stands after an end of vector,
 -- 10 where it is plain and above the most that the vector may hold; else on, with whether the vector has ended
 abbrev pub elementTurn : ℕ → Bool → Element → ℕ → Turn

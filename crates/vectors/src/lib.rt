@@ -10,7 +10,7 @@ ghost use Rattle.types.specs.Rows.{widthOf};
 ghost use Rattle.types.specs.Elements.{kind};
 ghost use Rattle.values.specs.Answers.{valueInside};
 ghost use Rattle.vectors.specs.Sound.{highest, codeMost, mostOf, sound};
-ghost use Rattle.vectors.specs.Plain.{passed, allPassed, AllOn};
+ghost use Rattle.vectors.specs.Engine.{passed, allPassed, AllOn};
 ghost use Rattle.vectors.specs.Vectors.{numbers, elementTurn, stopped, vector, vectors, judged, judgedInside};
 use types::Element;
 use types::Use;

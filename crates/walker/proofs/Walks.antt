@@ -13,7 +13,7 @@ use Rattle.words.proofs.Places.{drop-on}
 use Rattle.types.specs.declared.Use.the-variants.{Info}
 use Rattle.values.specs.Values.{integer}
 use Rattle.fixed.specs.Layout.{idAt, field}
-use Rattle.fixed.specs.declared.Facts.{Facts}
+use Rattle.facts.specs.declared.Facts.{Facts}
 use Rattle.fixed.specs.declared.Site.{Site}
 use Rattle.site.specs.Site.{info}
 use Rattle.site.specs.Steps.{then, times}
@@ -27,7 +27,7 @@ use Rattle.fetch_laws.proofs.Agree.{went, times-passed, info-passed}
 use Rattle.fetch.proofs.Inside.{passing-later, past-later}
 use Rattle.fetch_laws.proofs.There.{judged-passed, Walk, site-walk, found-in, found-none}
 use Rattle.fetch.specs.Fields.{paired, fieldAt}
-use Rattle.fetch.specs.Passing.{fieldStep, passing, past, toInfo, toField, fieldIn}
+use Rattle.fetch.specs.Engine.{fieldStep, passing, past, toInfo, toField, fieldIn}
 use Rattle.fetch.specs.Account.{account, ofKind, numbered}
 use Rattle.fetch.specs.Fetch.{fieldOf, found}
 use Rattle.fetch.specs.declared.Kind.the-variants.{Filter, Info as InfoKind}

@@ -6,7 +6,7 @@ use lib.ListN.{length, take, drop}
 use denote.Ref.{RefT, now}
 use Rattle.words.specs.Pick.{pick}
 use Rattle.words.specs.Words.{number}
-use Rattle.fixed.specs.declared.Facts.{Facts}
+use Rattle.facts.specs.declared.Facts.{Facts}
 use Rattle.record.specs.Reading.{reading}
 use Rattle.record.specs.declared.Reading.{Reading}
 use Rattle.record.specs.declared.Reading.the-variants.{Accepted, Refused as Unread}

@@ -3,9 +3,9 @@
 ghost use mathlib.Core.Path.{_≡_};
 ghost use lib.ListN.{drop};
 ghost use Rattle.walker.specs.Walk.{asPair, pairAt, pairIn, afterPair, nextAt, firstAfter, opened, walker, movedOn, advanced};
+use facts::Facts;
 use fetch::Found;
 use fetch::Kind;
-use fixed::Facts;
 use record::Reading;
 use values::Refusal;
 

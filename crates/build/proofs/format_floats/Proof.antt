@@ -3,7 +3,7 @@ use mathlib.Core.Path.{_≡_, _∙_, refl}
 use mir.Syntax.{w32}
 use mir.Val.{ofZ}
 use Rattle.words.proofs.Sign.{back}
-use Rattle.record.specs.Shown.{floats}
+use Rattle.shown.specs.Shown.{floats}
 use Rattle.build.specs.Values.{givenNumber}
 use Rattle.build.specs.Turns.{formatGiven, afterFormat}
 use Rattle.build_append.proofs.Writing.{written-room, written-rules}

@@ -5,7 +5,7 @@ use lib.ListN.{length-map}
 use mir.Syntax.{w32}
 use mir.Val.{ofZ}
 use Rattle.words.proofs.Sign.{back}
-use Rattle.record.specs.Shown.{integers}
+use Rattle.shown.specs.Shown.{integers}
 use Rattle.build.specs.Values.{givenNumber}
 use Rattle.build.specs.Turns.{formatGiven, afterFormat}
 use Rattle.build_append.proofs.Writing.{written-room, written-rules}

@@ -7,7 +7,7 @@ use lib.ListN.{length-map}
 use mir.Syntax.{w32}
 use mir.Val.{ofZ}
 use Rattle.words.proofs.Sign.{back}
-use Rattle.record.specs.Shown.{integers}
+use Rattle.shown.specs.Shown.{integers}
 use Rattle.build.specs.Values.{givenNumber}
 use Rattle.build.specs.Turns.{infoGiven, afterInfo}
 use Rattle.build.specs.declared.Stage.the-variants.{Infos}

@@ -8,8 +8,8 @@ use lib.ListN.{length, length-map}
 use mir.Syntax.{w32}
 use mir.Val.{ofZ}
 use Rattle.encode.specs.Encode.{valueBytes}
-use Rattle.record.specs.Shown.{integers}
-use Rattle.build_append.specs.Values.{givenBytes}
+use Rattle.shown.specs.Shown.{integers}
+use Rattle.shown.specs.Values.{givenBytes}
 use Rattle.build_append.specs.Append.{headBytes, vectorLength, fieldBytes, written, writtenTo}
 use Rattle.build_append.proofs.Numbers.{append-room}
 use Rattle.build_append.proofs.Writing.{given-integers, integer-wide, sized, headed, written-by, written-taken, written-kept, field-eq}

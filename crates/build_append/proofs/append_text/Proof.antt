@@ -4,8 +4,8 @@ use mathlib.Core.Path.{_≡_, _∙_, ap}
 use Prim.Native.Nat.{_+_, _<_, _≤_}
 use native.Mathlib.Omega.{arith}
 use lib.ListN.{length}
-use Rattle.record.specs.Shown.{text}
-use Rattle.build_append.specs.Values.{givenBytes}
+use Rattle.shown.specs.Shown.{text}
+use Rattle.shown.specs.Values.{givenBytes}
 use Rattle.build_append.specs.Append.{headBytes, fieldBytes, written, writtenTo}
 use Rattle.build_append.proofs.Numbers.{append-room}
 use Rattle.build_append.proofs.Writing.{given-text, sized, headed, written-by, written-taken, written-kept, field-eq}

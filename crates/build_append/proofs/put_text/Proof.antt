@@ -1,6 +1,6 @@
 -- `build_append::put_text` meets its contract.
 use mathlib.Core.Path.{_∙_}
-use Rattle.build_append.specs.Values.{givenBytes}
+use Rattle.shown.specs.Values.{givenBytes}
 use Rattle.build_append.proofs.Values.{text-stored}
 use borrow.Author.Needs.{needs}
 use Rattle.build_append.proofs.put_text.Statement.{statement}

@@ -4,7 +4,7 @@ use mathlib.Core.Bool.{_&&_}
 use Prim.Native.Nat.{_-_, _≤_}
 use native.Mathlib.Omega.{arith}
 use lib.ListN.{length, drop}
-use Rattle.vectors.specs.Plain.{allPassed}
+use Rattle.vectors.specs.Engine.{allPassed}
 use Rattle.build_given.proofs.Plain.{sweep-turn, sweep-end}
 use borrow.Author.Needs.{needs}
 use Rattle.build_given.proofs.floats_pass.Statement.{statement}

@@ -9,7 +9,7 @@ use lib.ListN.{length, drop, getD, length-map}
 use mir.Syntax.{w32}
 use mir.Val.{ofZ}
 use Rattle.words.proofs.Sign.{bits-back}
-use Rattle.vectors.specs.Plain.{passed, allPassed}
+use Rattle.vectors.specs.Engine.{passed, allPassed}
 use Rattle.build_given.proofs.Plain.{sweep-turn-bits, sweep-end}
 use borrow.Author.Needs.{needs}
 use Rattle.build_given.proofs.integers_pass.Statement.{statement}

@@ -1,6 +1,6 @@
 -- `build_given::passes` meets its contract.
 use borrow.Author.Tests.{le-ltb, lt-ltb, ne-eqb}
-use Rattle.vectors.specs.Plain.{passed}
+use Rattle.vectors.specs.Engine.{passed}
 use Rattle.build_given.proofs.Plain.{missing-passes}
 use Rattle.build_given.proofs.passes.Statement.{statement}
 use Rattle.build_given.proofs.passes.Tie as tie

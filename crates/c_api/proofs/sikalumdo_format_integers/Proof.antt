@@ -5,7 +5,7 @@ use lib.ListN.{length}
 use mir.Syntax.{w32}
 use mir.Val.{ofZ}
 use Rattle.words.proofs.Sign.{back}
-use Rattle.record.specs.Shown.{integers}
+use Rattle.shown.specs.Shown.{integers}
 use Rattle.build.specs.declared.Builder.{Builder}
 use Rattle.build.specs.Turns.{formatGiven, afterFormat}
 use Rattle.c_state.specs.Kept.{turnAnswer, turnNumbers}

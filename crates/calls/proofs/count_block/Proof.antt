@@ -5,7 +5,7 @@ use native.Mathlib.Omega.{arith}
 use native.Mathlib.Nat.{mul-assoc, mul-one, mul-pos}
 use lib.ListN.{drop, length}
 use Rattle.vectors.proofs.Plain.{elements-fit, width-1}
-use Rattle.calls.specs.Sweep.{folded}
+use Rattle.calls.specs.Engine.{folded}
 use Rattle.calls.specs.Totals.{total}
 use Rattle.calls.proofs.Counters.{wider}
 use Rattle.calls.proofs.Padding.{told-block}

@@ -8,7 +8,7 @@ use lib.ListN.{drop, length}
 use Rattle.vectors.proofs.Plain.{block-room, block-one}
 use Rattle.vectors.proofs.Turns.{vectors-fit}
 use Rattle.calls.specs.Calls as spec
-use Rattle.calls.specs.Sweep.{folded}
+use Rattle.calls.specs.Engine.{folded}
 use Rattle.calls.proofs.Counters.{raised-none, wider, zeros}
 use Rattle.calls.proofs.Turns.{onward, onward-start, onward-block, some-width, some-length}
 use borrow.Author.Needs.{needs}

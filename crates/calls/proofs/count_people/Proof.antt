@@ -7,7 +7,7 @@ use native.Mathlib.Omega.{arith}
 use lib.ListN.{drop, length}
 use Rattle.values.proofs.Room.{room}
 use Rattle.calls.specs.Calls as spec
-use Rattle.calls.specs.Sweep.{raised, folded}
+use Rattle.calls.specs.Engine.{raised, folded}
 use Rattle.calls.proofs.Counters.{raised-none, wider}
 use Rattle.calls.proofs.Turns.{without-turn, called-turn}
 use borrow.Author.Needs.{needs}

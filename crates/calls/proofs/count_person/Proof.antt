@@ -10,7 +10,7 @@ use Rattle.words.proofs.Words.{number-at}
 use Rattle.values.proofs.Room.{room}
 use Rattle.vectors.specs.Vectors.{numbers}
 use Rattle.calls.specs.Calls.{slots, alleles, noSlot, AtMost}
-use Rattle.calls.specs.Sweep.{raised, folded}
+use Rattle.calls.specs.Engine.{raised, folded}
 use Rattle.calls.proofs.Counters.{raised-none, raised-one, set-past, set-within, wider}
 use Rattle.calls.proofs.Pairs.{folded-set, folded-above, folded-65}
 use Rattle.calls.proofs.Turns.{none-turn, alleles-turn}

@@ -7,7 +7,7 @@ use native.Mathlib.Omega.{arith}
 use lib.ListN.{drop, length}
 use Rattle.vectors.specs.Vectors.{numbers}
 use Rattle.calls.specs.Calls.{howMany, counters}
-use Rattle.calls.specs.Halves.{halves}
+use Rattle.calls.specs.Engine.{halves}
 use Rattle.calls.proofs.Halves.{half-turn}
 use Rattle.calls.proofs.Padding.{end-turn}
 use borrow.Author.Needs.{needs}

@@ -9,7 +9,7 @@ use Rattle.words.specs.Pick.{pick}
 use Rattle.values.proofs.Room.{room}
 use Rattle.words.proofs.Pick.{pick-test}
 use Rattle.calls.specs.Calls.{people}
-use Rattle.calls.specs.Halves.{firstsFew}
+use Rattle.calls.specs.Engine.{firstsFew}
 use Rattle.calls.proofs.Padding.{firsts-turn}
 use borrow.Author.Needs.{needs}
 use Rattle.calls.proofs.firsts_few.Statement.{statement}

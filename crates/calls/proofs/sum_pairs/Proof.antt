@@ -5,7 +5,7 @@ use native.Mathlib.Omega.{arith}
 use borrow.Author.Count.{below-more}
 use lib.ListN.{getD, length, length-set}
 use lib.Seq.{ext-getD, getD-set-other, getD-set-same}
-use Rattle.calls.specs.Sweep.{folded}
+use Rattle.calls.specs.Engine.{folded}
 use Rattle.calls.proofs.Pairs.{folded-at, folded-65}
 use borrow.Author.Needs.{needs}
 use Rattle.calls.proofs.sum_pairs.Statement.{statement}

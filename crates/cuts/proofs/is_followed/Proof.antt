@@ -1,5 +1,5 @@
 -- `cuts::is_followed` meets its contract.
-use Rattle.cuts.specs.Followed.{followed}
+use Rattle.cuts.specs.Engine.{followed}
 use borrow.Author.Needs.{needs}
 use Rattle.cuts.proofs.is_followed.Statement.{statement}
 use Rattle.cuts.proofs.is_followed.Tie as tie

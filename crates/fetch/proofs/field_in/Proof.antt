@@ -2,7 +2,7 @@
 use native.Mathlib.Omega.{arith}
 use lib.ListN.{length}
 use Rattle.words.proofs.Places.{drop-on}
-use Rattle.fetch.specs.Passing.{fieldIn}
+use Rattle.fetch.specs.Engine.{fieldIn}
 use Rattle.fetch.proofs.Fields.{found-on}
 use borrow.Author.Needs.{needs}
 use Rattle.fetch.proofs.field_in.Statement.{statement}

@@ -5,7 +5,7 @@ use Prim.Native.Nat.{ℕ}
 use native.Mathlib.Omega.{arith}
 use lib.ListN.{length, take, drop, length-take}
 use borrow.Author.Tests.{le-leb, lt-leb}
-use Rattle.fetch.specs.Passing.{fieldIn, orNone}
+use Rattle.fetch.specs.Engine.{fieldIn, orNone}
 use Rattle.fetch.proofs.Account.{field-number}
 use Rattle.fetch.proofs.Fields.{found-on, none-inside}
 use borrow.Author.Needs.{needs}

@@ -5,7 +5,7 @@ use native.Mathlib.Omega.{arith}
 use lib.ListN.{drop, length}
 use Rattle.words.proofs.Places.{drop-on}
 use Rattle.site.specs.Steps.{times}
-use Rattle.fetch.specs.Passing.{passing, past}
+use Rattle.fetch.specs.Engine.{passing, past}
 use Rattle.fetch.proofs.Fields.{found-step, past-turn}
 use borrow.Author.Needs.{needs}
 use Rattle.fetch.proofs.skip.Statement.{statement}

@@ -1,7 +1,7 @@
 -- `fetch::to_filter` meets its contract.
 use lib.ListN.{length}
 use Rattle.words.proofs.Places.{drop-on}
-use Rattle.fetch.specs.Passing.{toFilter}
+use Rattle.fetch.specs.Engine.{toFilter}
 use Rattle.fetch.proofs.Fields.{step-on}
 use borrow.Author.Needs.{needs}
 use Rattle.fetch.proofs.to_filter.Statement.{statement}

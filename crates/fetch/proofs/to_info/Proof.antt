@@ -1,7 +1,7 @@
 -- `fetch::to_info` meets its contract.
 use lib.ListN.{length}
 use Rattle.words.proofs.Places.{drop-on}
-use Rattle.fetch.specs.Passing.{toInfo}
+use Rattle.fetch.specs.Engine.{toInfo}
 use Rattle.fetch.proofs.Fields.{step-on}
 use borrow.Author.Needs.{needs}
 use Rattle.fetch.proofs.to_info.Statement.{statement}

@@ -7,7 +7,7 @@ use native.Mathlib.Omega.{arith}
 use lib.ListN.{length}
 use Rattle.words.specs.Lists.{among}
 use Rattle.repeats.specs.Repeats.{shownElements}
-use Rattle.repeats.specs.Windows.{earlier, stood}
+use Rattle.repeats.specs.Engine.{earlier, stood}
 use Rattle.repeats.proofs.Elements.{length-elements}
 use Rattle.repeats.proofs.Lists.{found, onward}
 use borrow.Author.Needs.{needs}

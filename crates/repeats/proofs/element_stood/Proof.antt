@@ -5,7 +5,7 @@ use native.Mathlib.Omega.{arith}
 use borrow.Author.Tests.{eq-eqb, ne-eqb}
 use Rattle.words.specs.Lists.{among}
 use Rattle.repeats.specs.Repeats.{shownElements}
-use Rattle.repeats.specs.Windows.{earlier}
+use Rattle.repeats.specs.Engine.{earlier}
 use Rattle.repeats.proofs.Lists.{among-turn}
 use borrow.Author.Needs.{needs}
 use Rattle.repeats.proofs.element_stood.Statement.{statement}

@@ -4,7 +4,7 @@ use Prim.Native.Nat.{_+_, _-_, _/_, _≤_}
 use native.Mathlib.Omega.{arith}
 use lib.ListN.{length}
 use Rattle.repeats.specs.Repeats.{shownElements}
-use Rattle.repeats.specs.Windows.{Below}
+use Rattle.repeats.specs.Engine.{Below}
 use Rattle.repeats.proofs.Elements.{length-elements}
 use Rattle.repeats.proofs.Lists.{bound-start, bound-turn, bound-end}
 use borrow.Author.Needs.{needs}

@@ -9,7 +9,7 @@ use lib.ListN.{length, length-map}
 use mir.Syntax.{w32}
 use mir.Val.{ofZ}
 use Rattle.words.specs.Lists.{among}
-use Rattle.repeats.specs.Windows.{earlier, stood}
+use Rattle.repeats.specs.Engine.{earlier, stood}
 use Rattle.repeats.proofs.Lists.{found, onward}
 use borrow.Author.Needs.{needs}
 use Rattle.repeats.proofs.integer_pairs.Statement.{statement}

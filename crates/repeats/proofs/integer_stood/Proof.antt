@@ -7,7 +7,7 @@ use mir.Syntax.{w32}
 use mir.Val.{ofZ}
 use borrow.Author.Tests.{eq-eqb, ne-eqb}
 use Rattle.words.specs.Lists.{among}
-use Rattle.repeats.specs.Windows.{earlier}
+use Rattle.repeats.specs.Engine.{earlier}
 use Rattle.repeats.proofs.Lists.{among-turn}
 use borrow.Author.Needs.{needs}
 use Rattle.repeats.proofs.integer_stood.Statement.{statement}

@@ -8,7 +8,7 @@ use native.Mathlib.Omega.{arith}
 use lib.ListN.{length, getD}
 use mir.Syntax.{w32}
 use mir.Val.{ofZ}
-use Rattle.repeats.specs.Windows.{earlier, Fresh, noted}
+use Rattle.repeats.specs.Engine.{earlier, Fresh, noted}
 use Rattle.repeats.proofs.Notes.{Notes, notes-none, sweep-stop, sweep-notes, sweep-fresh}
 use Rattle.repeats.proofs.Lists.{fewer, one-more}
 use borrow.Author.Needs.{needs}

@@ -6,7 +6,7 @@ use native.Mathlib.Omega.{arith}
 use lib.ListN.{length-map}
 use mir.Syntax.{w32}
 use mir.Val.{ofZ}
-use Rattle.repeats.specs.Windows.{Below}
+use Rattle.repeats.specs.Engine.{Below}
 use Rattle.repeats.proofs.Lists.{bound-start, bound-turn, bound-end}
 use borrow.Author.Needs.{needs}
 use Rattle.repeats.proofs.integer_windows.Statement.{statement}

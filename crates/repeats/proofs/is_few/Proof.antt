@@ -2,7 +2,7 @@
 use native.Mathlib.Omega.{arith}
 use borrow.Author.Tests.{le-leb, lt-leb}
 use Rattle.values.proofs.Room.{prod}
-use Rattle.repeats.specs.Windows.{few}
+use Rattle.repeats.specs.Engine.{few}
 use borrow.Author.Needs.{needs}
 use Rattle.repeats.proofs.is_few.Statement.{statement}
 use Rattle.repeats.proofs.is_few.Tie as tie

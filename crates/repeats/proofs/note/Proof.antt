@@ -4,7 +4,7 @@ use Prim.Native.Nat.{_/_, _%_, _^_}
 use native.Mathlib.Omega.{arith}
 use lib.ListN.{getD, length-set}
 use borrow.Author.Tests.{eq-eqb, ne-eqb}
-use Rattle.repeats.specs.Windows.{noted, noting, held, withBit}
+use Rattle.repeats.specs.Engine.{noted, noting, held, withBit}
 use Rattle.repeats.proofs.Bits.{one-bit, set-below}
 use borrow.Author.Needs.{needs}
 use Rattle.repeats.proofs.note.Statement.{statement}

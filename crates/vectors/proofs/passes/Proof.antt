@@ -1,6 +1,6 @@
 -- `vectors::passes` meets its contract.
 use borrow.Author.Tests.{le-ltb, lt-ltb}
-use Rattle.vectors.specs.Plain.{passed}
+use Rattle.vectors.specs.Engine.{passed}
 use Rattle.vectors.proofs.passes.Statement.{statement}
 use Rattle.vectors.proofs.passes.Tie as tie
 use Rattle.vectors.proofs.passes.Reads as reads

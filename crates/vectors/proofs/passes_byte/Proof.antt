@@ -1,6 +1,6 @@
 -- `vectors::passes_byte` meets its contract.
 use borrow.Author.Tests.{le-ltb, lt-ltb}
-use Rattle.vectors.specs.Plain.{passed}
+use Rattle.vectors.specs.Engine.{passed}
 use Rattle.vectors.proofs.passes_byte.Statement.{statement}
 use Rattle.vectors.proofs.passes_byte.Tie as tie
 use Rattle.vectors.proofs.passes_byte.Reads as reads

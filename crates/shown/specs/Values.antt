@@ -1,8 +1,8 @@
--- Values as they are given: of what kind, and in which type they are written. Rests on encode, and on the kinds that a record shows.
+-- The bytes of a value of a kind: in which type it is written, alone or with its key. Rests on encode, and on the kinds that a record shows.
 use Prim.Native.Nat.{ℕ}
 use mathlib.Core.List.{List, _++_}
 use Rattle.encode.specs.Encode.{integerBytes, widest, valueBytes}
-use Rattle.record.specs.Shown.{Kind, integers, floats, text}
+use Rattle.shown.specs.Shown.{Kind, integers, floats, text}
 
 -- integers are written in the widest type that any of them takes, floats in type 5, text in type 7
 abbrev pub writtenAs : Kind → List ℕ → ℕ

@@ -1,9 +1,15 @@
--- What one step of the sweep does: an element as a slot, and counters, kept as pairs, raised by the alleles of slots. Rests on specs/Calls.
+-- An engine's own words, which no public promise cites: an element as a slot, counters raised by the alleles of slots and kept as pairs, and elements of
+-- one byte counted by their halves where all are a missing allele or one of the first three. Rests on specs/Calls.
 use Prim.Native.Nat.{ℕ, suc, _+_, _/_}
 use mathlib.Core.List.{List, [], _∷_}
+use mathlib.Core.Bool.{Bool, true, false}
+use lib.Dec.{ltb}
+use lib.ListN.{getD}
+use Rattle.words.specs.Pick.{pick}
 use Rattle.types.specs.declared.Element.{Element}
 use Rattle.types.specs.declared.Element.the-variants.{Plain, Missing, End, Reserved}
 use Rattle.calls.specs.Calls.{howMany}
+use Rattle.calls.specs.declared.Few.{Few}
 use Rattle.calls.specs.declared.Slot.{Slot}
 use Rattle.calls.specs.declared.Slot.the-variants.{Past, Call}
 
@@ -24,3 +30,17 @@ unfoldable pub folded : List ℕ → List ℕ
 folded [] = []
 folded (c ∷ []) = c ∷ []
 folded (c ∷ d ∷ cs) = (c + d) ∷ folded cs
+
+-- half of each number
+unfoldable pub halves : List ℕ → List ℕ
+halves [] = []
+halves (x ∷ xs) = x / 2 ∷ halves xs
+
+-- how often a missing allele and each of the first three is called, as counters
+abbrev pub listed : Few → List ℕ
+listed f = f .none ∷ f .first ∷ f .second ∷ f .third ∷ []
+
+-- whether each person's first number is below 8: a missing allele or one of the first three
+unfoldable pub firstsFew : List (List ℕ) → Bool
+firstsFew [] = true
+firstsFew (p ∷ ps) = pick (ltb (getD p 0 0) 8) (firstsFew ps) false

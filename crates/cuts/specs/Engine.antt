@@ -1,4 +1,5 @@
--- Whether bytes follow the record at the front of a list, by the record's own lengths. Rests on fixed.
+-- An engine's own words, which no public promise cites: whether bytes follow the record at the front of a list, by the record's own lengths. Rests on
+-- fixed.
 use Prim.Native.Nat.{ℕ}
 use mathlib.Core.List.{List}
 use mathlib.Core.Bool.{Bool, false}

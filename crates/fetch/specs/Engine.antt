@@ -1,4 +1,5 @@
--- How fetching comes to a field: past those before it, each by its descriptor and not judged again. Rests on specs/Fields and on site's steps.
+-- An engine's own words, which no public promise cites: how fetching comes to a field, past those before it, each by its descriptor and not judged
+-- again. Rests on specs/Fields and on site's steps.
 use Prim.Native.Nat.{ℕ, _-_}
 use mathlib.Core.List.{List}
 use mathlib.Core.Bool.{Bool, true, false}
@@ -73,14 +74,6 @@ blockEnd kind t = pick (isFormat kind) (t .length) (t .border)
 
 abbrev pub blockOf : Kind → Site → List ℕ → List ℕ
 blockOf kind t s = drop (blockFrom kind t) (take (blockEnd kind t) s)
-
--- how many fields of a kind there are
-abbrev pub countOf : Kind → Site → ℕ
-countOf Id t = 1
-countOf Allele t = t .alleles
-countOf Filter t = 1
-countOf Info t = t .infos
-countOf Format t = t .formats
 
 -- 16 where there is no whole field
 abbrev pub orNone : Found → Found

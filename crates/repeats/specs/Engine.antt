@@ -1,4 +1,5 @@
--- How repeats are found: a window is a stretch of 4,194,304 offsets, kept as bits, 32 in a number. Rests on words' lists.
+-- An engine's own words, which no public promise cites: how repeats are found. A window is a stretch of 4,194,304 offsets, kept as bits, 32 in a
+-- number. Rests on words' lists.
 use Prim.Native.Nat.{ℕ, zero, suc, _+_, _*_, _/_, _%_, _^_, _<_, _≤_}
 use mathlib.Core.Path.{_≡_}
 use mathlib.Core.Logic.{_⊎_}

@@ -1,4 +1,4 @@
--- Elements that all go on: plain and up to the most, or missing. Rests on what a turn is.
+-- An engine's own words, which no public promise cites: elements that all go on, plain and up to the most, or missing. Rests on what a turn is.
 use Prim.Native.Nat.{ℕ}
 use mathlib.Core.Path.{_≡_}
 use mathlib.Core.List.{List, [], _∷_}

@@ -1,4 +1,5 @@
--- The two marks that every type of integers has, as type 3 has them: missing and end of vector. Rests on words' `pick`.
+-- An engine's own words, which no public promise cites: the two marks that every type of integers has, as type 3 has them, missing and end of vector.
+-- Rests on words' `pick`.
 use Prim.Native.Nat.{ℕ}
 use mathlib.Core.Bool.{Bool, true}
 use lib.Dec.{eqb}

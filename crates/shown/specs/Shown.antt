@@ -1,11 +1,10 @@
--- What a record shows, as plain values with no widths and no places: its fixed fields, ID, alleles, filters, INFO pairs and FORMAT fields. Rests on
--- how elements are shown.
-use Prim.Native.Nat.{ℕ, _/_}
+-- What a record shows, as plain values with no widths and no places: its fixed fields, ID, alleles, filters, INFO pairs and FORMAT fields. Reader and
+-- writer both speak of it. Rests on words' `pick`.
+use Prim.Native.Nat.{ℕ}
 use mathlib.Core.List.{List}
+use mathlib.Core.Bool.{Bool, true, false}
 use lib.Dec.{eqb}
 use Rattle.words.specs.Pick.{pick}
-use Rattle.types.specs.Rows.{widthOf}
-use Rattle.vectors.specs.Vectors.{shownNumbers}
 
 -- a value is integers, shown as 32 bits with the marks of type 3, or floats' bits, or bytes of text
 pub data Kind : Type 0 where
@@ -39,9 +38,11 @@ pub record Shown : Type 0 where
   pub infos : List Pair
   pub formats : List Field
 
+-- the kind of a type code's elements
 abbrev pub kindOf : ℕ → Kind
 kindOf t = pick (eqb t 7) text (pick (eqb t 5) floats integers)
 
--- the elements of type t in so many bytes at the front of a list
-unfoldable pub elementsOf : ℕ → ℕ → List ℕ → List ℕ
-elementsOf t size l = shownNumbers t (widthOf t) (size / widthOf t) l
+abbrev pub isIntegers : Kind → Bool
+isIntegers integers = true
+isIntegers floats = false
+isIntegers text = false

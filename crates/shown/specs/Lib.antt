@@ -1,0 +1,4 @@
+pub mod Shown
+pub mod Values
+pub mod Front
+pub mod Records
