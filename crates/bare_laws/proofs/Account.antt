@@ -11,7 +11,7 @@ use lib.Seq.{length-take-le, drop-at}
 use borrow.Author.Tests.{eqb-true}
 use Rattle.words.specs.Pick.{pick}
 use Rattle.types.specs.declared.Use.{Use}
-use Rattle.types.specs.declared.Use.the-variants.{Id as IdUse, Allele as AlleleUse, Filter as FilterUse, Key, Info as InfoUse, Format as FormatUse}
+use Rattle.types.specs.declared.Use.the-variants.{Id as IdUse, Allele as AlleleUse, Filter as FilterUse, Info as InfoUse, Format as FormatUse}
 use Rattle.values.specs.Answers.{integerInside}
 use Rattle.values.specs.Values.{integer, present}
 use Rattle.values.specs.declared.Integer.{Integer}
@@ -61,7 +61,7 @@ value-one vectors role rest at l key = by-value (present vectors role at l) refl
     by-value (Present t n first stop) p = rw (present-ones vectors role at l (rest stop (drop (stop - at) l)) t n first stop p)
 
 -- behind a key stands what becomes of its value
-drop-pairOne : (vectors : ℕ) (role : Use) (rest : Onward) (at : ℕ) (l : List ℕ) (key next : ℕ) → integer Key at l ≡ One key next
+drop-pairOne : (vectors : ℕ) (role : Use) (rest : Onward) (at : ℕ) (l : List ℕ) (key next : ℕ) → integer at l ≡ One key next
     → at ≤ next → next ≤ at + length l
     → drop (next - at) (pairOne vectors role rest at l) ≡ valueOne vectors role rest next (drop (next - at) l)
 drop-pairOne vectors role rest at l key next h a b =
@@ -71,10 +71,10 @@ drop-pairOne vectors role rest at l key next h a b =
 pair-one : (vectors : ℕ) (role : Use) (rest : Onward) (at : ℕ) (l : List ℕ)
     → paired vectors role at (pairOne vectors role rest at l) ≡ asOne (paired vectors role at l)
 unfolding paired pairOne
-pair-one vectors role rest at l = by-key (integer Key at l) refl (integer-inside Key at l)
+pair-one vectors role rest at l = by-key (integer at l) refl (integer-inside at l)
   where
-    by-key : (i : Integer) → integer Key at l ≡ i → integerInside at (at + length l) i
-        → pairField vectors role at (pastKey (valueOne vectors role rest) at l i) (integer Key at (pastKey (valueOne vectors role rest) at l i))
+    by-key : (i : Integer) → integer at l ≡ i → integerInside at (at + length l) i
+        → pairField vectors role at (pastKey (valueOne vectors role rest) at l i) (integer at (pastKey (valueOne vectors role rest) at l i))
         ≡ asOne (pairField vectors role at l i)
     by-key (NoInteger r) p k = rw p
     by-key (One key next) p k =
@@ -82,7 +82,7 @@ pair-one vectors role rest at l = by-key (integer Key at l) refl (integer-inside
         let here : at + (next - at) ≡ next = omega (arith, k .0) in
         let value : drop (next - at) (take (next - at) l ++ m) ≡ m =
         drop-at (take (next - at) l) m (next - at) (length-take-le (next - at) l (omega (arith, k .0, k .1))) in
-        rw (integer-front Key at at l m key next p, here, value) (value-one vectors role rest next (drop (next - at) l) key)
+        rw (integer-front at at l m key next p, here, value) (value-one vectors role rest next (drop (next - at) l) key)
 
 field-one : (kind : Kind) (people : ℕ) (rest : Onward) (at : ℕ) (l : List ℕ)
     → fieldAt kind people at (oneOf kind people rest at l) ≡ asOne (fieldAt kind people at l)

@@ -9,7 +9,7 @@ use lib.ListN.{length, getD, take, drop, take-append-drop, replicate}
 use borrow.Author.Tests.{eq-eqb}
 use Rattle.words.specs.Pick.{pick}
 use Rattle.types.specs.declared.Use.{Use}
-use Rattle.types.specs.declared.Use.the-variants.{Id, Allele, Filter, Key, Info, Format}
+use Rattle.types.specs.declared.Use.the-variants.{Id, Allele, Filter, Info, Format}
 use Rattle.values.specs.Values.{integer, present}
 use Rattle.values.specs.declared.Integer.{Integer}
 use Rattle.values.specs.declared.Integer.the-variants.{One, Refused as NoInteger}
@@ -73,7 +73,7 @@ keeps-value vectors role rest h at l = by-value (present vectors role at l)
 
 keeps-pair : (vectors : ℕ) (role : Use) (rest : Onward) → Keeps rest → Keeps (pairOne vectors role rest)
 unfolding pairOne
-keeps-pair vectors role rest h at l = by-key (integer Key at l)
+keeps-pair vectors role rest h at l = by-key (integer at l)
   where
     by-key : (i : Integer) → Kept l (pastKey (valueOne vectors role rest) at l i)
     by-key (NoInteger r) = kept-same l

@@ -7,7 +7,7 @@ use native.Mathlib.Omega.{arith}
 use lib.ListN.{length, take, drop, replicate, length-append, length-drop, take-append-drop}
 use lib.Seq.{length-take-le, take-at, drop-at, take-nil, drop-nil}
 use Rattle.types.specs.declared.Use.{Use}
-use Rattle.types.specs.declared.Use.the-variants.{Id, Allele, Filter, Key, Info, Format}
+use Rattle.types.specs.declared.Use.the-variants.{Id, Allele, Filter, Info, Format}
 use Rattle.values.specs.Values.{integer, present}
 use Rattle.values.specs.declared.Integer.{Integer}
 use Rattle.values.specs.declared.Integer.the-variants.{One, Refused as NoInteger}
@@ -54,7 +54,7 @@ even-value vectors role rest e at l = by-value (present vectors role at l)
 
 even-pair : (vectors : ℕ) (role : Use) (rest : Onward) → Even rest → Even (pairOne vectors role rest)
 unfolding pairOne
-even-pair vectors role rest e at l = by-key (integer Key at l)
+even-pair vectors role rest e at l = by-key (integer at l)
   where
     by-key : (i : Integer) → length (pastKey (valueOne vectors role rest) at l i) ≡ length l
     by-key (NoInteger r) = refl

@@ -13,7 +13,7 @@ use lib.Seq.{length-take-le, drop-at}
 use Rattle.words.specs.Pick.{pick}
 use Rattle.types.specs.Rows.{widthOf}
 use Rattle.types.specs.declared.Use.{Use}
-use Rattle.types.specs.declared.Use.the-variants.{Id, Allele, Filter, Key, Info, Format}
+use Rattle.types.specs.declared.Use.the-variants.{Id, Allele, Filter, Info, Format}
 use Rattle.values.specs.Values.{integer, keyed, present}
 use Rattle.values.specs.declared.Integer.{Integer}
 use Rattle.values.specs.declared.Integer.the-variants.{One, Refused as NoInteger}
@@ -205,7 +205,7 @@ unfolding filter
 filter-passes strings = value-passes 1 Filter (filterValue strings) (λ at l v q. filter-value strings at l v {q = q}) (filter-ones strings)
 
 -- a key that is there, as it is, before what becomes of its value
-pub pairOne-there : (vectors : ℕ) (role : Use) (rest : Onward) (at : ℕ) (l : List ℕ) (key next : ℕ) → integer Key at l ≡ One key next
+pub pairOne-there : (vectors : ℕ) (role : Use) (rest : Onward) (at : ℕ) (l : List ℕ) (key next : ℕ) → integer at l ≡ One key next
     → pairOne vectors role rest at l ≡ take (next - at) l ++ valueOne vectors role rest next (drop (next - at) l)
 unfolding pairOne
 pairOne-there vectors role rest at l key next h = rw h
@@ -213,10 +213,10 @@ pairOne-there vectors role rest at l key next h = rw h
 -- a way to read keys: what it finds is an integer, and stays so whatever follows
 pub record Keys (key : ℕ → List ℕ → Integer) : Type 0 where
   pub front : (at : ℕ) (l m : List ℕ) (x next : ℕ) → key at l ≡ One x next → key at (take (next - at) l ++ m) ≡ One x (at + (next - at))
-  pub number : (at : ℕ) (l : List ℕ) (x next : ℕ) → key at l ≡ One x next → integer Key at l ≡ One x next
+  pub number : (at : ℕ) (l : List ℕ) (x next : ℕ) → key at l ≡ One x next → integer at l ≡ One x next
 
-pub keys-integer : Keys (integer Key)
-keys-integer = record { front = λ at l m x next h. integer-front Key at at l m x next h; number = λ at l x next h. h }
+pub keys-integer : Keys integer
+keys-integer = record { front = λ at l m x next h. integer-front at at l m x next h; number = λ at l x next h. h }
 
 keys-keyed : (strings : ℕ) → Keys (keyed strings)
 keys-keyed strings = record { front = λ at l m x next h. keyed-front strings at at l m x next h; number = keyed-integer strings }
@@ -241,7 +241,7 @@ pair-passes vectors role key value keys passes rest at l q h = by-key (key at l)
         let l1 = drop (next - at) l in
         let m = valueOne vectors role rest next l1 in
         let there = keys .number at l x next p in
-        let i = rw there at (integer-inside Key at l) in
+        let i = rw there at (integer-inside at l) in
         let a = passes x rest next l1 q e in
         let split = pairOne-there vectors role rest at l x next there in
         let here : at + (next - at) ≡ next = omega (arith, i .0) in

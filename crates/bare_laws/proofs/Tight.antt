@@ -10,7 +10,7 @@ use lib.Seq.{take-at}
 use Rattle.words.specs.Pick.{pick}
 use Rattle.types.specs.Rows.{rowOf, widthOf, allowed}
 use Rattle.types.specs.declared.Use.{Use}
-use Rattle.types.specs.declared.Use.the-variants.{Id, Allele, Filter, Key, Info, Format}
+use Rattle.types.specs.declared.Use.the-variants.{Id, Allele, Filter, Info, Format}
 use Rattle.fixed.specs.Layout.{idAt, mostBytes}
 use Rattle.facts.specs.declared.Facts.{Facts}
 use Rattle.fixed.specs.declared.Site.{Site}
@@ -83,7 +83,7 @@ pair-given vectors role rest at key k n xs m a i h c =
     let e : at + length b + length v ≡ at + length (b ++ v) = rw length-append (omega arith) in
     rw (
       append-assoc b v m,
-      integer-bytes Key at key (v ++ m) refl i,
+      integer-bytes at key (v ++ m) i,
       take-at b (v ++ m) (at + length b - at) (omega arith),
       drop-front at b (v ++ m),
       value-given vectors role rest (at + length b) k n xs m a h c,

@@ -14,7 +14,7 @@ use borrow.Author.Tests.{eqb-true, eqb-false, ltb-false, ne-eqb, le-leb}
 use Rattle.words.specs.Pick.{pick}
 use Rattle.types.specs.Rows.{rowOf, widthOf, allowed}
 use Rattle.types.specs.declared.Use.{Use}
-use Rattle.types.specs.declared.Use.the-variants.{Id, Allele, Filter, Key, Length, Info, Format, Gt}
+use Rattle.types.specs.declared.Use.the-variants.{Id, Allele, Filter, Integer as IntegerUse, Info, Format, Gt}
 use Rattle.values.specs.Answers.{noDescriptor, typed}
 use Rattle.values.specs.Values.{trueLength, withLength, mayStand, described, present}
 use Rattle.values.specs.declared.Integer.{Integer}
@@ -43,8 +43,7 @@ unfolding rowOf
 one-allowed Id h = cc
 one-allowed Allele h = cc
 one-allowed Filter h = refl
-one-allowed Key h = cc
-one-allowed Length h = cc
+one-allowed IntegerUse h = cc
 one-allowed Info h = refl
 one-allowed Format h = refl
 one-allowed Gt h = refl

@@ -7,7 +7,7 @@ use lib.Dec.{eqb}
 use lib.ListN.{take, drop, replicate}
 use Rattle.words.specs.Pick.{pick}
 use Rattle.types.specs.declared.Use.{Use}
-use Rattle.types.specs.declared.Use.the-variants.{Id as IdUse, Allele as AlleleUse, Filter as FilterUse, Key, Info as InfoUse, Format as FormatUse}
+use Rattle.types.specs.declared.Use.the-variants.{Id as IdUse, Allele as AlleleUse, Filter as FilterUse, Info as InfoUse, Format as FormatUse}
 use Rattle.values.specs.Values.{integer, present}
 use Rattle.values.specs.declared.Integer.{Integer}
 use Rattle.values.specs.declared.Integer.the-variants.{One, Refused as NoInteger}
@@ -50,7 +50,7 @@ pastKey rest at l (NoInteger r) = l
 pastKey rest at l (One key next) = take (next - at) l ++ rest next (drop (next - at) l)
 
 unfoldable pub pairOne : ℕ → Use → Onward → Onward
-pairOne vectors role rest at l = pastKey (valueOne vectors role rest) at l (integer Key at l)
+pairOne vectors role rest at l = pastKey (valueOne vectors role rest) at l (integer at l)
 
 -- a field of a kind, and then what follows it
 abbrev pub oneOf : Kind → ℕ → Onward → Onward

@@ -10,7 +10,7 @@ use lib.ListN.{length, drop, replicate, length-append}
 use borrow.Author.Tests.{ne-eqb}
 use Rattle.types.specs.Rows.{rowOf, allowed}
 use Rattle.types.specs.declared.Use.{Use}
-use Rattle.types.specs.declared.Use.the-variants.{Id, Allele, Filter, Key, Info, Format}
+use Rattle.types.specs.declared.Use.the-variants.{Id, Allele, Filter, Info, Format}
 use Rattle.fixed.specs.Layout.{idAt, mostBytes}
 use Rattle.facts.specs.declared.Facts.{Facts}
 use Rattle.encode.specs.Encode.{integerBytes, descriptorBytes, widest}
@@ -112,7 +112,7 @@ items-pair kind kinds people vectors role at key k n xs rest same may small shor
     rw (
       same at (b ++ v ++ rest),
       append-assoc b v rest,
-      integer-bytes Key at key (v ++ rest) refl small,
+      integer-bytes at key (v ++ rest) small,
       on,
       present-given vectors role q k n xs rest may short count,
       e,

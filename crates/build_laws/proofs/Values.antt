@@ -17,7 +17,7 @@ use Rattle.words.proofs.Words.{length-bytes}
 use Rattle.types.specs.Rows.{integerRow, rowOf, widthOf, allowed}
 use Rattle.types.specs.Elements.{narrowest}
 use Rattle.types.specs.declared.Use.{Use}
-use Rattle.types.specs.declared.Use.the-variants.{Id, Allele, Filter, Key, Length, Info, Format, Gt}
+use Rattle.types.specs.declared.Use.the-variants.{Id, Allele, Filter, Integer as IntegerUse, Info, Format, Gt}
 use Rattle.values.proofs.Stand.{mayStand-wide}
 use Rattle.values.specs.Values.{integer, trueLength, keyed, described, present}
 use Rattle.values.specs.declared.Integer.the-variants.{One}
@@ -58,8 +58,7 @@ same-uses : (w v : ℕ) (role : Use) → allowed (integerRow w) role ≡ allowed
 same-uses w v Id = refl
 same-uses w v Allele = refl
 same-uses w v Filter = refl
-same-uses w v Key = refl
-same-uses w v Length = refl
+same-uses w v IntegerUse = refl
 same-uses w v Info = refl
 same-uses w v Format = refl
 same-uses w v Gt = refl
@@ -69,10 +68,9 @@ unfolding rowOf
 allowed-integers role t h k e = by-type (λ t. allowed (rowOf t) role ≡ true) (same-uses 1 4 role ∙ e) (same-uses 2 4 role ∙ e) e t h k
 
 -- one integer
-pub integer-bytes : (role : Use) (at x : ℕ) (m : List ℕ) → allowed (rowOf 3) role ≡ true → x < 4294967296
-    → integer role at (integerBytes x ++ m) ≡ One x (at + length (integerBytes x))
-unfolding integer integerBytes
-integer-bytes role at x m e h =
+pub integer-bytes : (at x : ℕ) (m : List ℕ) → x < 4294967296 → integer at (integerBytes x ++ m) ≡ One x (at + length (integerBytes x))
+unfolding integer integerBytes rowOf
+integer-bytes at x m h =
     let t = narrowest x in
     let n = narrowest-types x in
     let b = length-bytes (widthOf t) x in
@@ -81,14 +79,14 @@ integer-bytes role at x m e h =
     let room : ltb (length (bytes (widthOf t) x ++ m)) (widthOf t) ≡ false =
     le-ltb (length (bytes (widthOf t) x ++ m)) (widthOf t) (rw length-append (omega arith)) in
     let next : at + 1 + widthOf t ≡ at + suc (length (bytes (widthOf t) x)) = omega arith in
-    rw (low, one, allowed-integers role t (n .0) (n .1) e, room, shown-narrowest x m h, next)
+    rw (low, one, allowed-integers IntegerUse t (n .0) (n .1) refl, room, shown-narrowest x m h, next)
 
 -- a true length
 pub trueLength-bytes : (at n : ℕ) (m : List ℕ) → 15 ≤ n → n < 2147483648
     → trueLength at (integerBytes n ++ m) ≡ One n (at + length (integerBytes n))
 unfolding trueLength rowOf
 trueLength-bytes at n m l h =
-    rw (integer-bytes Length at n m refl (omega arith), le-ltb n 15 l, lt-leb 2147483648 n h)
+    rw (integer-bytes at n m (omega arith), le-ltb n 15 l, lt-leb 2147483648 n h)
 
 -- a descriptor
 pub described-bytes : (role : Use) (at t n : ℕ) (m : List ℕ) → allowed (rowOf t) role ≡ true → (t < 16) × (0 < widthOf t) → n < 2147483648
@@ -291,7 +289,7 @@ key-bits strings key h = by-test (leb 0x80000000 key) refl (key-inside strings k
 pub keyed-bytes : (strings at key : ℕ) (m : List ℕ) → keyNumber strings key ≡ 0
     → keyed strings at (integerBytes key ++ m) ≡ One key (at + length (integerBytes key))
 unfolding keyed rowOf
-keyed-bytes strings at key m k = rw (integer-bytes Key at key m refl (key-bits strings key k), key-inside strings key k)
+keyed-bytes strings at key m k = rw (integer-bytes at key m (key-bits strings key k), key-inside strings key k)
 
 -- every use of a value in INFO and FORMAT is allowed
 pub allowed-info : (k : Kind) → allowed (rowOf (givenAs k)) Info ≡ true

@@ -16,7 +16,7 @@ use Rattle.words.proofs.Words.{length-bytes, number-bytes}
 use Rattle.types.specs.Rows.{rowOf, widthOf}
 use Rattle.types.specs.Elements.{marked, kind, widened, shown, narrowest}
 use Rattle.types.specs.declared.Use.{Use}
-use Rattle.types.specs.declared.Use.the-variants.{Id, Allele, Filter, Key, Length, Info, Format, Gt}
+use Rattle.types.specs.declared.Use.the-variants.{Id, Allele, Filter, Integer as IntegerUse, Info, Format, Gt}
 use Rattle.types.specs.declared.Element.{Element}
 use Rattle.types.specs.declared.Element.the-variants.{Plain, Missing, End, Reserved}
 use Rattle.vectors.specs.Sound.{highest, codeMost, mostOf}
@@ -212,8 +212,7 @@ most-under t g x y alleles b c Gt h = c h
 most-under t g x y alleles b c Id h = b
 most-under t g x y alleles b c Allele h = b
 most-under t g x y alleles b c Filter h = b
-most-under t g x y alleles b c Key h = b
-most-under t g x y alleles b c Length h = b
+most-under t g x y alleles b c IntegerUse h = b
 most-under t g x y alleles b c Info h = b
 most-under t g x y alleles b c Format h = b
 

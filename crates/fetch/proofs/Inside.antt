@@ -13,7 +13,7 @@ use Rattle.words.specs.Pick.{pick}
 use Rattle.words.specs.Words.{outside}
 use Rattle.types.specs.Rows.{rowOf, widthOf, allowed}
 use Rattle.types.specs.declared.Use.{Use}
-use Rattle.types.specs.declared.Use.the-variants.{Key, Length, Id as IdUse, Allele as AlleleUse, Filter as FilterUse, Info as InfoUse, Format as FormatUse}
+use Rattle.types.specs.declared.Use.the-variants.{Integer as IntegerUse, Id as IdUse, Allele as AlleleUse, Filter as FilterUse, Info as InfoUse, Format as FormatUse}
 use Rattle.values.specs.Answers.{integerInside, descriptorInside, valueInside}
 use Rattle.values.specs.Values.{integer, inDictionary, keyed, longEnough, trueLength, withLength, mayStand, described, withElements, present}
 use Rattle.values.specs.declared.Integer.{Integer}
@@ -39,19 +39,19 @@ tested P false x y h k = k refl
 either : {A : Type 0} (P : A → Type 0) (b : Bool) (x y : A) → P x → P y → P (pick b x y)
 either P b x y h k = tested P b x y (λ e. h) (λ e. k)
 
-pub integer-inside : (role : Use) (at : ℕ) (l : List ℕ) → integerInside at (at + length l) (integer role at l)
+pub integer-inside : (at : ℕ) (l : List ℕ) → integerInside at (at + length l) (integer at l)
 unfolding integer
-integer-inside role at [] = tt
-integer-inside role at (d ∷ rest) =
+integer-inside at [] = tt
+integer-inside at (d ∷ rest) =
     let P = integerInside at (at + length (d ∷ rest)) in
-    either P (allowed (rowOf (d % 16)) role) _ _
+    either P (allowed (rowOf (d % 16)) IntegerUse) _ _
     (either P (eqb (d / 16) 1) _ _
     (tested P (ltb (length rest) (widthOf (d % 16))) _ _ (λ e. tt)
     (λ e. (omega arith, omega (arith, ltb-false (length rest) (widthOf (d % 16)) e)))) tt) tt
 
 pub keyed-inside : (strings at : ℕ) (l : List ℕ) → integerInside at (at + length l) (keyed strings at l)
 unfolding keyed
-keyed-inside strings at l = by-key (integer Key at l) (integer-inside Key at l)
+keyed-inside strings at l = by-key (integer at l) (integer-inside at l)
   where
     by-key : (i : Integer) → integerInside at (at + length l) i → integerInside at (at + length l) (inDictionary strings at i)
     by-key (NoInteger r) h = tt
@@ -71,11 +71,11 @@ unfolding described trueLength
 described-inside role at [] = tt
 described-inside role at (d ∷ rest) =
     let P = descriptorInside at (at + length (d ∷ rest)) in
-    let i = integer Length (at + 1) rest in
+    let i = integer (at + 1) rest in
     either P (mayStand role (d % 16) (d / 16)) _ _
     (either P (ltb (d / 16) 15) _ _ (omega arith, omega arith)
     (length-inside (d % 16) at (at + 1 + length rest) (at + length (d ∷ rest)) (longEnough (at + 1) i) (omega arith)
-    (long-inside (at + 1) (at + 1 + length rest) i (integer-inside Length (at + 1) rest)))) tt
+    (long-inside (at + 1) (at + 1 + length rest) i (integer-inside (at + 1) rest)))) tt
 
 elements-inside : (vectors at end : ℕ) (d : Descriptor) → descriptorInside at end d → valueInside at end (withElements vectors end d)
 elements-inside vectors at end (NoDescriptor r) h = tt
@@ -101,7 +101,7 @@ alone-inside role at l = value-found 0 (present 1 role at l) at at (at + length 
 
 pub paired-inside : (vectors : ℕ) (role : Use) (at : ℕ) (l : List ℕ) → foundInside at (at + length l) (paired vectors role at l)
 unfolding paired
-paired-inside vectors role at l = key-inside vectors role at l (integer Key at l) (integer-inside Key at l)
+paired-inside vectors role at l = key-inside vectors role at l (integer at l) (integer-inside at l)
 
 pub field-inside : (kind : Kind) (people at : ℕ) (l : List ℕ) → foundInside at (at + length l) (fieldAt kind people at l)
 field-inside Id people at l = alone-inside IdUse at l

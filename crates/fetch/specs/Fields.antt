@@ -3,7 +3,7 @@ use Prim.Native.Nat.{ℕ, _-_, _<_, _≤_}
 use mathlib.Core.List.{List}
 use lib.ListN.{drop}
 use Rattle.types.specs.declared.Use.{Use}
-use Rattle.types.specs.declared.Use.the-variants.{Key, Id as IdUse, Allele as AlleleUse, Filter as FilterUse, Info as InfoUse, Format as FormatUse}
+use Rattle.types.specs.declared.Use.the-variants.{Id as IdUse, Allele as AlleleUse, Filter as FilterUse, Info as InfoUse, Format as FormatUse}
 use Rattle.values.specs.Answers.{refusal}
 use Rattle.values.specs.Values.{integer, present}
 use Rattle.values.specs.declared.Integer.{Integer}
@@ -30,7 +30,7 @@ unfoldable pub alone : Use → ℕ → List ℕ → Found
 alone role at l = valueField 0 (present 1 role at l)
 
 unfoldable pub paired : ℕ → Use → ℕ → List ℕ → Found
-paired vectors role at l = pairField vectors role at l (integer Key at l)
+paired vectors role at l = pairField vectors role at l (integer at l)
 
 -- the field of a kind at the front of a list: INFO and FORMAT values have keys, and FORMAT values a vector for each person
 abbrev pub fieldAt : Kind → ℕ → ℕ → List ℕ → Found

@@ -117,7 +117,7 @@ fn key_and_value(block: &[u8], at: usize, role: Use, vectors: u32) -> Found
     ensures { λ r. ⌜ r ≡ paired vectors role at (drop at (now (block .entry))) ⌝ }
     ensures { λ r. ⌜ foundInside at (length (now (block .entry))) r ⌝ }
 {
-    let k = values::integer_at(block, at, Use::Key);
+    let k = values::integer_at(block, at);
     let Integer::One { bits, next } = k else {
         return key_not_found(k);
     };

@@ -10,7 +10,7 @@ use lib.ListN.{take, drop}
 use Rattle.words.specs.Pick.{pick}
 use Rattle.words.specs.Words.{outside}
 use Rattle.types.specs.declared.Use.{Use}
-use Rattle.types.specs.declared.Use.the-variants.{Key, Id as IdUse, Allele as AlleleUse, Filter as FilterUse, Info as InfoUse}
+use Rattle.types.specs.declared.Use.the-variants.{Id as IdUse, Allele as AlleleUse, Filter as FilterUse, Info as InfoUse}
 use Rattle.values.specs.Answers.{noInteger, one}
 use Rattle.values.specs.Values.{integer, inDictionary, keyed, present}
 use Rattle.values.specs.declared.Integer.{Integer}
@@ -122,7 +122,7 @@ info-value strings at l (One key next) h = by-key (outside strings key) h
 
 pub info-passed : (strings people at : ℕ) (l : List ℕ) (q : ℕ) → info strings at l ≡ At q → passing Info people at l ≡ At q
 unfolding passing paired info keyed
-info-passed strings people at l q h = info-value strings at l (integer Key at l) h
+info-passed strings people at l q h = info-value strings at l (integer at l) h
 
 -- a step and then another that came to an end: where the first came to, and the second from there
 pub record Went (at : ℕ) (l : List ℕ) (p : Step) (next : ℕ → List ℕ → Step) (e : ℕ) : Type 0 where

@@ -12,7 +12,7 @@ use Rattle.words.specs.Pick.{pick}
 use Rattle.words.specs.Words.{outside}
 use Rattle.types.specs.Rows.{rows, rowOf, widthOf, unused}
 use Rattle.types.specs.declared.Row.{Row}
-use Rattle.types.specs.declared.Use.the-variants.{Key, Format as FormatUse, Gt as GtUse}
+use Rattle.types.specs.declared.Use.the-variants.{Format as FormatUse, Gt as GtUse}
 use Rattle.values.specs.Answers.{integerInside, noInteger, one, noDescriptor, typed}
 use Rattle.values.specs.Values.{integer, inDictionary, keyed, withLength, trueLength, mayStand, described, withElements, present}
 use Rattle.values.specs.declared.Integer.{Integer}
@@ -102,12 +102,12 @@ format-value strings people gt alleles at l (One key next) h = by-key (outside s
 pub format-passed : (strings people gt alleles at : ℕ) (l : List ℕ) (q : ℕ) → format strings people gt alleles at l ≡ At q
     → passing Format people at l ≡ At q
 unfolding format passing paired keyed
-format-passed strings people gt alleles at l q h = format-value strings people gt alleles at l (integer Key at l) h
+format-passed strings people gt alleles at l q h = format-value strings people gt alleles at l (integer at l) h
 
 -- a key in the dictionary is an integer
-pub keyed-integer : (strings at : ℕ) (l : List ℕ) (x next : ℕ) → keyed strings at l ≡ One x next → integer Key at l ≡ One x next
+pub keyed-integer : (strings at : ℕ) (l : List ℕ) (x next : ℕ) → keyed strings at l ≡ One x next → integer at l ≡ One x next
 unfolding keyed
-keyed-integer strings at l x next h = by-integer (integer Key at l) h
+keyed-integer strings at l x next h = by-integer (integer at l) h
   where
     by-test : (y q : ℕ) (a : Bool) → pick a (noInteger 8 (at + 1)) (one y q) ≡ One x next → One y q ≡ One x next
     by-test y q true e = cc

@@ -15,7 +15,7 @@ use Rattle.words.specs.Words.{number, outside}
 use Rattle.types.specs.Rows.{rowOf, widthOf, allowed}
 use Rattle.types.specs.Elements.{shown}
 use Rattle.types.specs.declared.Use.{Use}
-use Rattle.types.specs.declared.Use.the-variants.{Key, Length}
+use Rattle.types.specs.declared.Use.the-variants.{Integer as IntegerUse}
 use Rattle.values.specs.Answers.{noInteger, one, noDescriptor, typed, integerInside}
 use Rattle.values.specs.Values.{integer, longEnough, trueLength, inDictionary, keyed, withLength, mayStand, described, present}
 use Rattle.values.specs.declared.Integer.{Integer}
@@ -35,20 +35,20 @@ number-front : (w : ℕ) (l m : List ℕ) → w ≤ length l → number w (take 
 unfolding number
 number-front w l m h = rw (take-at (take w l) m w (length-take-le w l h))
 
-pub integer-front : (role : Use) (at at′ : ℕ) (l m : List ℕ) (x next : ℕ) → integer role at l ≡ One x next
-    → integer role at′ (take (next - at) l ++ m) ≡ One x (at′ + (next - at))
+pub integer-front : (at at′ : ℕ) (l m : List ℕ) (x next : ℕ) → integer at l ≡ One x next
+    → integer at′ (take (next - at) l ++ m) ≡ One x (at′ + (next - at))
 unfolding integer
-integer-front role at at′ [] m x next h = cc
-integer-front role at at′ (d ∷ rest) m x next h =
-    by-tests (allowed (rowOf (d % 16)) role) (eqb (d / 16) 1) (ltb (length rest) (widthOf (d % 16))) refl refl refl h
+integer-front at at′ [] m x next h = cc
+integer-front at at′ (d ∷ rest) m x next h =
+    by-tests (allowed (rowOf (d % 16)) IntegerUse) (eqb (d / 16) 1) (ltb (length rest) (widthOf (d % 16))) refl refl refl h
   where
     w : ℕ
     w = widthOf (d % 16)
 
-    by-tests : (a b c : Bool) → allowed (rowOf (d % 16)) role ≡ a → eqb (d / 16) 1 ≡ b → ltb (length rest) w ≡ c
+    by-tests : (a b c : Bool) → allowed (rowOf (d % 16)) IntegerUse ≡ a → eqb (d / 16) 1 ≡ b → ltb (length rest) w ≡ c
         → pick a (pick b (pick c (noInteger 3 (at + 1 + length rest)) (one (shown (d % 16) (number w rest)) (at + 1 + w))) (noInteger 6 at)) (noInteger 6 at)
         ≡ One x next
-        → integer role at′ (take (next - at) (d ∷ rest) ++ m) ≡ One x (at′ + (next - at))
+        → integer at′ (take (next - at) (d ∷ rest) ++ m) ≡ One x (at′ + (next - at))
     by-tests false b c p q r e = cc
     by-tests true false c p q r e = cc
     by-tests true true true p q r e = cc
@@ -66,49 +66,49 @@ integer-front role at at′ (d ∷ rest) m x next h =
 trueLength-front : (at at′ : ℕ) (l m : List ℕ) (x next : ℕ) → trueLength at l ≡ One x next
     → trueLength at′ (take (next - at) l ++ m) ≡ One x (at′ + (next - at))
 unfolding trueLength
-trueLength-front at at′ l m x next h = by-integer (integer Length at l) refl h
+trueLength-front at at′ l m x next h = by-integer (integer at l) refl h
   where
-    by-tests : (y q : ℕ) (a b : Bool) → integer Length at l ≡ One y q → ltb y 15 ≡ a → leb 0x80000000 y ≡ b
+    by-tests : (y q : ℕ) (a b : Bool) → integer at l ≡ One y q → ltb y 15 ≡ a → leb 0x80000000 y ≡ b
         → pick a (noInteger 7 at) (pick b (noInteger 7 at) (one y q)) ≡ One x next
-        → longEnough at′ (integer Length at′ (take (next - at) l ++ m)) ≡ One x (at′ + (next - at))
+        → longEnough at′ (integer at′ (take (next - at) l ++ m)) ≡ One x (at′ + (next - at))
     by-tests y q true b i u v e = cc
     by-tests y q false true i u v e = cc
     by-tests y q false false i u v e =
-        let j : integer Length at l ≡ One x next = cc in
+        let j : integer at l ≡ One x next = cc in
         let k : y ≡ x = cc in
         let u′ : ltb x 15 ≡ false = rw k at u in
         let v′ : leb 0x80000000 x ≡ false = rw k at v in
-        rw (integer-front Length at at′ l m x next j, u′, v′)
+        rw (integer-front at at′ l m x next j, u′, v′)
 
-    by-integer : (i : Integer) → integer Length at l ≡ i → longEnough at i ≡ One x next
-        → longEnough at′ (integer Length at′ (take (next - at) l ++ m)) ≡ One x (at′ + (next - at))
+    by-integer : (i : Integer) → integer at l ≡ i → longEnough at i ≡ One x next
+        → longEnough at′ (integer at′ (take (next - at) l ++ m)) ≡ One x (at′ + (next - at))
     by-integer (NoInteger r) p e = cc
     by-integer (One y q) p e = by-tests y q (ltb y 15) (leb 0x80000000 y) p refl refl e
 
 pub keyed-front : (strings at at′ : ℕ) (l m : List ℕ) (x next : ℕ) → keyed strings at l ≡ One x next
     → keyed strings at′ (take (next - at) l ++ m) ≡ One x (at′ + (next - at))
 unfolding keyed
-keyed-front strings at at′ l m x next h = by-integer (integer Key at l) refl h
+keyed-front strings at at′ l m x next h = by-integer (integer at l) refl h
   where
-    by-test : (y q : ℕ) (a : Bool) → integer Key at l ≡ One y q → outside strings y ≡ a
+    by-test : (y q : ℕ) (a : Bool) → integer at l ≡ One y q → outside strings y ≡ a
         → pick a (noInteger 8 (at + 1)) (one y q) ≡ One x next
-        → inDictionary strings at′ (integer Key at′ (take (next - at) l ++ m)) ≡ One x (at′ + (next - at))
+        → inDictionary strings at′ (integer at′ (take (next - at) l ++ m)) ≡ One x (at′ + (next - at))
     by-test y q true i u e = cc
     by-test y q false i u e =
-        let j : integer Key at l ≡ One x next = cc in
+        let j : integer at l ≡ One x next = cc in
         let k : y ≡ x = cc in
         let u′ : outside strings x ≡ false = rw k at u in
-        rw (integer-front Key at at′ l m x next j, u′)
+        rw (integer-front at at′ l m x next j, u′)
 
-    by-integer : (i : Integer) → integer Key at l ≡ i → inDictionary strings at i ≡ One x next
-        → inDictionary strings at′ (integer Key at′ (take (next - at) l ++ m)) ≡ One x (at′ + (next - at))
+    by-integer : (i : Integer) → integer at l ≡ i → inDictionary strings at i ≡ One x next
+        → inDictionary strings at′ (integer at′ (take (next - at) l ++ m)) ≡ One x (at′ + (next - at))
     by-integer (NoInteger r) p e = cc
     by-integer (One y q) p e = by-test y q (outside strings y) p refl e
 
 -- a true length comes to a place after its descriptor
 trueLength-later : (at : ℕ) (l : List ℕ) (x next : ℕ) → trueLength at l ≡ One x next → at ≤ next
 unfolding trueLength
-trueLength-later at l x next h = by-integer (integer Length at l) (integer-inside Length at l) h
+trueLength-later at l x next h = by-integer (integer at l) (integer-inside at l) h
   where
     by-tests : (y q : ℕ) (a b : Bool) → at ≤ q → pick a (noInteger 7 at) (pick b (noInteger 7 at) (one y q)) ≡ One x next → at ≤ next
     by-tests y q true b i e = let z : _≡_ {A = ℕ} 0 1 = cc in absurd (omega arith)
@@ -181,7 +181,7 @@ paired-front vectors k role at at′ l els m key t n first stop h e =
     let j : drop (at′ + (q - at) - at′) (take (q - at) l ++ rest) ≡ rest =
     drop-at (take (q - at) l) rest (at′ + (q - at) - at′) (rw (length-take-le (q - at) l (omega arith)) (omega arith)) in
     let u : at′ + (q - at) + (first - q) ≡ at′ + (first - at) = omega arith in
-    rw (split, integer-front Key at at′ l rest key q (r .number), j, present-front vectors k role q (at′ + (q - at)) (drop (q - at) l) els m t n first stop (r .value) e, u)
+    rw (split, integer-front at at′ l rest key q (r .number), j, present-front vectors k role q (at′ + (q - at)) (drop (q - at) l) els m t n first stop (r .value) e, u)
 
 -- past the front of a part that goes on behind it
 drop-take : {A : Type 0} (w k : ℕ) (l : List A) → drop w (take (w + k) l) ≡ take k (drop w l)

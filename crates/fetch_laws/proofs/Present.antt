@@ -9,7 +9,6 @@ use lib.ListN.{length, drop}
 use Rattle.words.specs.Pick.{pick}
 use Rattle.types.specs.Rows.{widthOf}
 use Rattle.types.specs.declared.Use.{Use}
-use Rattle.types.specs.declared.Use.the-variants.{Key}
 use Rattle.values.specs.Answers.{noValue, whole, integerInside, valueInside}
 use Rattle.values.specs.Values.{integer, described, withElements, present}
 use Rattle.values.specs.declared.Integer.{Integer}
@@ -52,7 +51,7 @@ present-typed vectors role at l t n first stop h =
 -- a field that is there: its key, and its value after it
 pub record Keyed (vectors : ℕ) (role : Use) (at : ℕ) (l : List ℕ) (key t n first stop : ℕ) : Type 0 where
   pub next : ℕ
-  pub number : integer Key at l ≡ One key next
+  pub number : integer at l ≡ One key next
   pub value : present vectors role next (drop (next - at) l) ≡ Present t n first stop
   pub later : at ≤ next
   pub inside : next ≤ at + length l
@@ -60,18 +59,18 @@ pub record Keyed (vectors : ℕ) (role : Use) (at : ℕ) (l : List ℕ) (key t n
 pub paired-keyed : (vectors : ℕ) (role : Use) (at : ℕ) (l : List ℕ) (key t n first stop : ℕ) → paired vectors role at l ≡ Field key t n first stop
     → Keyed vectors role at l key t n first stop
 unfolding paired
-paired-keyed vectors role at l key t n first stop h = by-key (integer Key at l) refl (integer-inside Key at l) h
+paired-keyed vectors role at l key t n first stop h = by-key (integer at l) refl (integer-inside at l) h
   where
-    by-value : (x next : ℕ) (v : Value) → integer Key at l ≡ One x next → at ≤ next → next ≤ at + length l
+    by-value : (x next : ℕ) (v : Value) → integer at l ≡ One x next → at ≤ next → next ≤ at + length l
         → present vectors role next (drop (next - at) l) ≡ v → valueField x v ≡ Field key t n first stop
         → Keyed vectors role at l key t n first stop
     by-value x next (NoValue r) p a b q e = let z : _≡_ {A = ℕ} 0 1 = cc in absurd (omega arith)
     by-value x next (Present t′ n′ first′ stop′) p a b q e =
-        let i : integer Key at l ≡ One key next = cc in
+        let i : integer at l ≡ One key next = cc in
         let j : present vectors role next (drop (next - at) l) ≡ Present t n first stop = cc in
         record { next = next; number = i; value = j; later = a; inside = b }
 
-    by-key : (i : Integer) → integer Key at l ≡ i → integerInside at (at + length l) i → pairField vectors role at l i ≡ Field key t n first stop
+    by-key : (i : Integer) → integer at l ≡ i → integerInside at (at + length l) i → pairField vectors role at l i ≡ Field key t n first stop
         → Keyed vectors role at l key t n first stop
     by-key (NoInteger r) p k e = let z : _≡_ {A = ℕ} 0 1 = cc in absurd (omega arith)
     by-key (One x next) p k e = by-value x next (present vectors role next (drop (next - at) l)) p (omega arith) (omega arith) refl e

@@ -13,7 +13,7 @@ use Rattle.words.specs.Words.{number, Bytes, outside}
 use Rattle.types.specs.Rows.{rowOf, widthOf, unused, allowed}
 use Rattle.types.specs.Elements.{shown, narrowest}
 use Rattle.types.specs.declared.Use.{Use}
-use Rattle.types.specs.declared.Use.the-variants.{Id, Allele, Filter, Key, Length, Info, Format, Gt}
+use Rattle.types.specs.declared.Use.the-variants.{Id, Allele, Filter, Integer as IntegerUse, Info, Format, Gt}
 use Rattle.types.proofs.Table.{whole, rows-rule}
 use Rattle.values.specs.Answers.{noInteger, one, noDescriptor, typed}
 use Rattle.values.specs.Values.{integer, longEnough, trueLength, inDictionary, keyed, withLength, mayStand, described}
@@ -39,22 +39,16 @@ whole-types t h = by-tests (leb 1 t) (leb t 3) refl refl h
     by-tests true false p q e = let z : _≡_ {A = ℕ} 0 1 = cc in absurd (omega arith)
     by-tests false b p q e = let z : _≡_ {A = ℕ} 0 1 = cc in absurd (omega arith)
 
-abbrev Whole : Use → Type 0
-Whole role = (t : ℕ) → t < 16 → allowed (rowOf t) role ≡ true → (0 < t) × (t ≤ 3)
-
-whole-key : Whole Key
-whole-key t h e = whole-types t (sym (rows-rule t h .key) ∙ e)
-
-whole-length : Whole Length
-whole-length t h e = whole-types t (sym (rows-rule t h .len) ∙ e)
+integer-types : (t : ℕ) → t < 16 → allowed (rowOf t) IntegerUse ≡ true → (0 < t) × (t ≤ 3)
+integer-types t h e = whole-types t (sym (rows-rule t h .integer) ∙ e)
 
 -- an integer that is not negative is written in no more bytes than it stands in
-integer-long : (role : Use) → Whole role → (at : ℕ) (l : List ℕ) (x next : ℕ) → integer role at l ≡ One x next → Bytes l → x < 0x80000000
+integer-long : (at : ℕ) (l : List ℕ) (x next : ℕ) → integer at l ≡ One x next → Bytes l → x < 0x80000000
     → at + length (integerBytes x) ≤ next
 unfolding integer
-integer-long role f at [] x next h b k = let z : _≡_ {A = ℕ} 0 1 = cc in absurd (omega arith)
-integer-long role f at (d ∷ rest) x next h b k =
-    by-tests (allowed (rowOf t) role) (eqb (d / 16) 1) (ltb (length rest) w) refl refl h
+integer-long at [] x next h b k = let z : _≡_ {A = ℕ} 0 1 = cc in absurd (omega arith)
+integer-long at (d ∷ rest) x next h b k =
+    by-tests (allowed (rowOf t) IntegerUse) (eqb (d / 16) 1) (ltb (length rest) w) refl refl h
   where
     t : ℕ
     t = d % 16
@@ -62,7 +56,7 @@ integer-long role f at (d ∷ rest) x next h b k =
     w : ℕ
     w = widthOf t
 
-    by-tests : (a c e : Bool) → allowed (rowOf t) role ≡ a → ltb (length rest) w ≡ e
+    by-tests : (a c e : Bool) → allowed (rowOf t) IntegerUse ≡ a → ltb (length rest) w ≡ e
         → pick a (pick c (pick e (noInteger 3 (at + 1 + length rest)) (one (shown t (number w rest)) (at + 1 + w))) (noInteger 6 at)) (noInteger 6 at)
         ≡ One x next
         → at + length (integerBytes x) ≤ next
@@ -73,7 +67,7 @@ integer-long role f at (d ∷ rest) x next h b k =
         let y = number w rest in
         let same : shown t y ≡ x = cc in
         let ends : at + 1 + w ≡ next = cc in
-        let types = f t (omega arith) p in
+        let types = integer-types t (omega arith) p in
         let bound = number-bound w rest (b .1) (ltb-false (length rest) w q) in
         let narrow : narrowest x ≤ t = rw same at (narrowest-shown t (types .0) (types .1) y bound (rw same k)) in
         let size = width-under (narrowest x) t (narrowest-types x .0) narrow (types .1) in
@@ -90,7 +84,7 @@ not-outside strings x h = by-test (leb 0x80000000 x) refl h
 
 keyed-offset : (strings at : ℕ) (l : List ℕ) (x next : ℕ) → keyed strings at l ≡ One x next → outside strings x ≡ false
 unfolding keyed
-keyed-offset strings at l x next h = by-integer (integer Key at l) h
+keyed-offset strings at l x next h = by-integer (integer at l) h
   where
     by-test : (y q : ℕ) (a : Bool) → outside strings y ≡ a → pick a (noInteger 8 (at + 1)) (one y q) ≡ One x next → outside strings x ≡ false
     by-test y q true p e = cc
@@ -111,20 +105,20 @@ key-keeps strings at l x next h b =
     let o = keyed-offset strings at l x next h in
     let k = not-outside strings x o in
     let there = keyed-integer strings at l x next h in
-    let i = rw there at (integer-inside Key at l) in
-    let long = integer-long Key whole-key at l x next there b k in
+    let i = rw there at (integer-inside at l) in
+    let long = integer-long at l x next there b k in
     record { bits = omega arith; inside = rw o; long = rw length-drop (omega (arith, i .0, i .1)) }
 
 -- a true length
 record Long (at : ℕ) (l : List ℕ) (x next : ℕ) : Type 0 where
-  there : integer Length at l ≡ One x next
+  there : integer at l ≡ One x next
   bits : x < 0x80000000
 
 long-enough : (at : ℕ) (l : List ℕ) (x next : ℕ) → trueLength at l ≡ One x next → Long at l x next
 unfolding trueLength
-long-enough at l x next h = by-integer (integer Length at l) refl h
+long-enough at l x next h = by-integer (integer at l) refl h
   where
-    by-tests : (y q : ℕ) (a b : Bool) → integer Length at l ≡ One y q → leb 0x80000000 y ≡ b
+    by-tests : (y q : ℕ) (a b : Bool) → integer at l ≡ One y q → leb 0x80000000 y ≡ b
         → pick a (noInteger 7 at) (pick b (noInteger 7 at) (one y q)) ≡ One x next → Long at l x next
     by-tests y q true b i p e = let z : _≡_ {A = ℕ} 0 1 = cc in absurd (omega arith)
     by-tests y q false true i p e = let z : _≡_ {A = ℕ} 0 1 = cc in absurd (omega arith)
@@ -132,7 +126,7 @@ long-enough at l x next h = by-integer (integer Length at l) refl h
         let same : y ≡ x = cc in
         record { there = i ∙ e; bits = rw same at (leb-false 0x80000000 y p) }
 
-    by-integer : (i : Integer) → integer Length at l ≡ i → longEnough at i ≡ One x next → Long at l x next
+    by-integer : (i : Integer) → integer at l ≡ i → longEnough at i ≡ One x next → Long at l x next
     by-integer (NoInteger r) p e = let z : _≡_ {A = ℕ} 0 1 = cc in absurd (omega arith)
     by-integer (One y q) p e = by-tests y q (ltb y 15) (leb 0x80000000 y) p refl e
 
@@ -148,8 +142,7 @@ no-use : (role : Use) → allowed unused role ≡ false
 no-use Id = refl
 no-use Allele = refl
 no-use Filter = refl
-no-use Key = refl
-no-use Length = refl
+no-use IntegerUse = refl
 no-use Info = refl
 no-use Format = refl
 no-use Gt = refl
@@ -211,7 +204,7 @@ described-long role at (d ∷ rest) t n first h b =
         let len : x ≡ n = cc in
         let ends : next ≡ first = cc in
         let k = long-enough (at + 1) rest x next s in
-        let size = rw (len, ends) at (integer-long Length whole-length (at + 1) rest x next (k .there) (b .1) (k .bits)) in
+        let size = rw (len, ends) at (integer-long (at + 1) rest x next (k .there) (b .1) (k .bits)) in
         record {
           code = omega arith;
           fits = rw type at (stands-use role (d % 16) (d / 16) p);

@@ -13,7 +13,7 @@ use Rattle.words.specs.Lists.{among}
 use Rattle.words.specs.Pick.{pick}
 use Rattle.words.specs.Words.{Bytes, outside}
 use Rattle.types.specs.Rows.{widthOf}
-use Rattle.types.specs.declared.Use.the-variants.{Id, Allele, Filter, Key, Info}
+use Rattle.types.specs.declared.Use.the-variants.{Id, Allele, Filter, Info}
 use Rattle.values.specs.Values.{keyed, present}
 use Rattle.values.specs.declared.Integer.{Integer}
 use Rattle.values.specs.declared.Integer.the-variants.{One, Refused as NoInteger}
@@ -300,7 +300,7 @@ pair-keeps strings at l q b p =
     let n = p .len in
     let first = p .first in
     let l1 = drop (next - at) l in
-    let i = rw (keyed-integer strings at l key next (p .number)) at (integer-inside Key at l) in
+    let i = rw (keyed-integer strings at l key next (p .number)) at (integer-inside at l) in
     let here = sound-there 1 0 Info next l1 t n first q (p .value) in
     let j = rw here at (present-inside 1 Info next l1) in
     let c = key-keeps strings at l key next (p .number) b in

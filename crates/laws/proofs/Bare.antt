@@ -8,7 +8,7 @@ use lib.Dec.{eqb}
 use lib.ListN.{length}
 use borrow.Author.Tests.{le-ltb}
 use Rattle.types.specs.Rows.{rowOf}
-use Rattle.types.specs.declared.Use.the-variants.{Id, Allele, Filter, Key, Length, Info, Format, Gt as GtUse}
+use Rattle.types.specs.declared.Use.the-variants.{Id, Allele, Filter, Info, Format, Gt as GtUse}
 use Rattle.facts.specs.declared.Facts.{Facts}
 use Rattle.fixed.specs.declared.Site.{Site}
 use Rattle.genotypes.specs.declared.Gt.{Gt}
@@ -25,7 +25,7 @@ use Rattle.tally.specs.declared.Counting.the-variants.{Counted}
 use Rattle.build_laws.specs.Builds.{Tight, Builds}
 use Rattle.build_laws.proofs.Builds.{tight-reads, tight-again}
 use Rattle.bare_laws.specs.Ones.{withOnes}
-use Rattle.bare_laws.proofs.Stand.{described-bare, refused-bare, refused-length, refused-integer}
+use Rattle.bare_laws.proofs.Stand.{described-bare, refused-bare, refused-length, refused-key, refused-trueLength}
 use Rattle.bare_laws.proofs.Found.{found-empty, pair-empty, gt-empty}
 use Rattle.bare_laws.proofs.Kept.{withOnes-kept}
 use Rattle.bare_laws.proofs.Account.{typeOther, found-left}
@@ -82,8 +82,8 @@ bare =
       id = λ at rest. refused-bare Id at rest refl;
       allele = λ at rest. refused-bare Allele at rest refl;
       lengths = refused-length;
-      key = λ n at rest. refused-integer Key n at rest refl;
-      true-length = λ n at rest. refused-integer Length n at rest refl;
+      key = refused-key;
+      true-length = refused-trueLength;
       fetches = found-empty;
       walks = pair-empty;
       without = nobody-called;

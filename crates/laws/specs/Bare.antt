@@ -7,9 +7,9 @@ use mathlib.Core.List.{List, [], _∷_}
 use mathlib.Core.Bool.{true}
 use lib.ListN.{length, getD}
 use Rattle.types.specs.declared.Use.{Use}
-use Rattle.types.specs.declared.Use.the-variants.{Id, Allele, Filter, Key, Length, Info, Format, Gt as GtUse}
+use Rattle.types.specs.declared.Use.the-variants.{Id, Allele, Filter, Info, Format, Gt as GtUse}
 use Rattle.values.specs.Answers.{noInteger, noDescriptor, typed}
-use Rattle.values.specs.Values.{integer, described}
+use Rattle.values.specs.Values.{trueLength, keyed, described}
 use Rattle.facts.specs.declared.Facts.{Facts}
 use Rattle.fixed.specs.declared.Site.{Site}
 use Rattle.genotypes.specs.declared.Gt.{Gt}
@@ -40,8 +40,8 @@ pub record Bare : Type 0 where
   -- 10 to F0, low half 0 with another length than 0: 6 at its place, whatever stands there
   pub lengths : (role : Use) (n at : ℕ) (rest : List ℕ) → 0 < n → described role at (n * 16 ∷ rest) ≡ noDescriptor 6 at
   -- 00 to F0 for a key or a true length: 6 at its place
-  pub key : (n at : ℕ) (rest : List ℕ) → integer Key at (n * 16 ∷ rest) ≡ noInteger 6 at
-  pub true-length : (n at : ℕ) (rest : List ℕ) → integer Length at (n * 16 ∷ rest) ≡ noInteger 6 at
+  pub key : (strings n at : ℕ) (rest : List ℕ) → keyed strings at (n * 16 ∷ rest) ≡ noInteger 6 at
+  pub true-length : (n at : ℕ) (rest : List ℕ) → trueLength at (n * 16 ∷ rest) ≡ noInteger 6 at
   -- what is fetched, or yielded by a walker, with type 0 is a bare 00: length 0, the place just after a byte 00, and no bytes
   pub fetches : (f : Facts) (kind : Kind) (number : ℕ) (s : List ℕ) (key n place stop : ℕ) → found f kind number s ≡ Field key 0 n place stop
       → Empty s n place stop × (fetched f kind number s ≡ [])

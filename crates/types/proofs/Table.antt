@@ -61,8 +61,7 @@ pub record Rule (t : ℕ) (r : Row) : Type 0 where
   pub id : r .id ≡ eqb t 7
   pub allele : r .allele ≡ eqb t 7
   pub filter : r .filter ≡ orBare t (whole t)
-  pub key : r .key ≡ whole t
-  pub len : r .len ≡ whole t
+  pub integer : r .integer ≡ whole t
   pub gt : r .gt ≡ orBare t (whole t)
   pub info : r .info ≡ orBare t (ltb 0 (r .width))
   pub format : r .format ≡ orBare t (ltb 0 (r .width))
@@ -75,38 +74,35 @@ ruled t r =
     both (same (r .id) (eqb t 7))
     (both (same (r .allele) (eqb t 7))
     (both (same (r .filter) (orBare t (whole t)))
-    (both (same (r .key) (whole t))
-    (both (same (r .len) (whole t))
+    (both (same (r .integer) (whole t))
     (both (same (r .gt) (orBare t (whole t)))
     (both (same (r .info) (orBare t (ltb 0 (r .width))))
     (both (same (r .format) (orBare t (ltb 0 (r .width))))
     (both (leb (r .width) 4)
     (both (same (eqb (r .width) 3) false)
-    (pick (eqb t 0) (eqb (r .width) 0) true))))))))))
+    (pick (eqb t 0) (eqb (r .width) 0) true)))))))))
 
 rule : (t : ℕ) (r : Row) → ruled t r ≡ true → Rule t r
 rule t r h =
     let h1 = right (same (r .id) (eqb t 7)) _ h in
     let h2 = right (same (r .allele) (eqb t 7)) _ h1 in
     let h3 = right (same (r .filter) (orBare t (whole t))) _ h2 in
-    let h4 = right (same (r .key) (whole t)) _ h3 in
-    let h5 = right (same (r .len) (whole t)) _ h4 in
-    let h6 = right (same (r .gt) (orBare t (whole t))) _ h5 in
-    let h7 = right (same (r .info) (orBare t (ltb 0 (r .width)))) _ h6 in
-    let h8 = right (same (r .format) (orBare t (ltb 0 (r .width)))) _ h7 in
-    let h9 = right (leb (r .width) 4) _ h8 in
+    let h4 = right (same (r .integer) (whole t)) _ h3 in
+    let h5 = right (same (r .gt) (orBare t (whole t))) _ h4 in
+    let h6 = right (same (r .info) (orBare t (ltb 0 (r .width)))) _ h5 in
+    let h7 = right (same (r .format) (orBare t (ltb 0 (r .width)))) _ h6 in
+    let h8 = right (leb (r .width) 4) _ h7 in
     record {
       id = agree _ _ (left _ _ h);
       allele = agree _ _ (left _ _ h1);
       filter = agree _ _ (left _ _ h2);
-      key = agree _ _ (left _ _ h3);
-      len = agree _ _ (left _ _ h4);
-      gt = agree _ _ (left _ _ h5);
-      info = agree _ _ (left _ _ h6);
-      format = agree _ _ (left _ _ h7);
-      most = left _ _ h8;
-      three = agree (eqb (r .width) 3) false (left _ _ h9);
-      none = right (same (eqb (r .width) 3) false) _ h9;
+      integer = agree _ _ (left _ _ h3);
+      gt = agree _ _ (left _ _ h4);
+      info = agree _ _ (left _ _ h5);
+      format = agree _ _ (left _ _ h6);
+      most = left _ _ h7;
+      three = agree (eqb (r .width) 3) false (left _ _ h8);
+      none = right (same (eqb (r .width) 3) false) _ h8;
     }
 
 -- the rule holds of every low half

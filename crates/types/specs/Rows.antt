@@ -5,7 +5,7 @@ use mathlib.Core.Bool.{Bool, true, false}
 use lib.ListN.{getD}
 use Rattle.types.specs.declared.Row.{Row}
 use Rattle.types.specs.declared.Use.{Use}
-use Rattle.types.specs.declared.Use.the-variants.{Id, Allele, Filter, Key, Length, Info, Format, Gt}
+use Rattle.types.specs.declared.Use.the-variants.{Id, Allele, Filter, Integer, Info, Format, Gt}
 
 -- integers of w bytes: FILTER, keys, true lengths, INFO and FORMAT values, GT
 abbrev pub integerRow : ℕ → Row
@@ -15,8 +15,7 @@ integerRow w =
       id = false;
       allele = false;
       filter = true;
-      key = true;
-      len = true;
+      integer = true;
       info = true;
       format = true;
       gt = true;
@@ -30,8 +29,7 @@ floatRow =
       id = false;
       allele = false;
       filter = false;
-      key = false;
-      len = false;
+      integer = false;
       info = true;
       format = true;
       gt = false;
@@ -45,8 +43,7 @@ textRow =
       id = true;
       allele = true;
       filter = false;
-      key = false;
-      len = false;
+      integer = false;
       info = true;
       format = true;
       gt = false;
@@ -60,8 +57,7 @@ bare =
       id = false;
       allele = false;
       filter = true;
-      key = false;
-      len = false;
+      integer = false;
       info = true;
       format = true;
       gt = true;
@@ -75,8 +71,7 @@ unused =
       id = false;
       allele = false;
       filter = false;
-      key = false;
-      len = false;
+      integer = false;
       info = false;
       format = false;
       gt = false;
@@ -116,8 +111,7 @@ abbrev pub allowed : Row → Use → Bool
 allowed r Id = r .id
 allowed r Allele = r .allele
 allowed r Filter = r .filter
-allowed r Key = r .key
-allowed r Length = r .len
+allowed r Integer = r .integer
 allowed r Info = r .info
 allowed r Format = r .format
 allowed r Gt = r .gt

@@ -10,7 +10,7 @@ use Rattle.words.specs.Words.{number, outside}
 use Rattle.types.specs.Rows.{rowOf, widthOf, allowed}
 use Rattle.types.specs.Elements.{shown}
 use Rattle.types.specs.declared.Use.{Use}
-use Rattle.types.specs.declared.Use.the-variants.{Key, Length}
+use Rattle.types.specs.declared.Use.the-variants.{Integer as IntegerUse}
 use Rattle.values.specs.Answers.{noInteger, one, noDescriptor, typed, noValue, whole}
 use Rattle.values.specs.declared.Integer.{Integer}
 use Rattle.values.specs.declared.Integer.the-variants.{One, Refused as NoInteger}
@@ -19,13 +19,14 @@ use Rattle.values.specs.declared.Descriptor.the-variants.{Typed, Refused
 use Rattle.values.specs.declared.Value.{Value}
 use Rattle.values.specs.declared.Value.the-variants.{Refused as NoValue}
 
--- one integer, with a descriptor of its own: its low half a type that the use allows, its high half 1; then its element
-unfoldable pub integer : Use → ℕ → List ℕ → Integer
-integer role at [] = noInteger 3 at
-integer role at (d ∷ rest) =
+-- one integer, with a descriptor of its own, 11, 12 or 13, as a key and a true length are: its low half an integer's type, its high half 1; then its
+-- element
+unfoldable pub integer : ℕ → List ℕ → Integer
+integer at [] = noInteger 3 at
+integer at (d ∷ rest) =
     let t = d % 16 in
     let w = widthOf t in
-    pick (allowed (rowOf t) role)
+    pick (allowed (rowOf t) IntegerUse)
     (pick (eqb (d / 16) 1)
     (pick (ltb (length rest) w) (noInteger 3 (at + 1 + length rest))
     (one (shown t (number w rest)) (at + 1 + w)))
@@ -38,7 +39,7 @@ longEnough at (NoInteger r) = NoInteger r
 longEnough at (One x next) = pick (ltb x 15) (noInteger 7 at) (pick (leb 0x80000000 x) (noInteger 7 at) (one x next))
 
 unfoldable pub trueLength : ℕ → List ℕ → Integer
-trueLength at l = longEnough at (integer Length at l)
+trueLength at l = longEnough at (integer at l)
 
 -- a key is an offset below the dictionary's size; a negative number is none
 abbrev pub inDictionary : ℕ → ℕ → Integer → Integer
@@ -46,7 +47,7 @@ inDictionary strings at (NoInteger r) = NoInteger r
 inDictionary strings at (One x next) = pick (outside strings x) (noInteger 8 (at + 1)) (one x next)
 
 unfoldable pub keyed : ℕ → ℕ → List ℕ → Integer
-keyed strings at l = inDictionary strings at (integer Key at l)
+keyed strings at l = inDictionary strings at (integer at l)
 
 -- a type that the use allows, with any length; type 0 has length 0 alone, so that its descriptor is a bare 00
 unfoldable pub mayStand : Use → ℕ → ℕ → Bool

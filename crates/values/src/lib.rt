@@ -67,10 +67,9 @@ fn descriptor_refusal(d: Descriptor) -> Refusal
     }
 }
 
-// One integer with a descriptor of its own, 11, 12 or 13, where a key or a true length stands: its bits and the place after it; or 3, 6, 3 in this
-// order.
-pub fn integer_at(block: &[u8], at: usize, role: Use) -> Integer
-    ensures { λ r. ⌜ r ≡ integer role at (drop at (now (block .entry))) ⌝ }
+// One integer with a descriptor of its own, 11, 12 or 13, as a key and a true length are: its bits and the place after it; or 3, 6, 3 in this order.
+pub fn integer_at(block: &[u8], at: usize) -> Integer
+    ensures { λ r. ⌜ r ≡ integer at (drop at (now (block .entry))) ⌝ }
     ensures { λ r. ⌜ integerInside at (length (now (block .entry))) r ⌝ }
 {
     if block.len() <= at {
@@ -82,7 +81,7 @@ pub fn integer_at(block: &[u8], at: usize, role: Use) -> Integer
     let d = block[at];
     let code = d % 16;
     let row = types::row_of(code);
-    if types::allows(row, role) {
+    if types::allows(row, Use::Integer) {
         if d / 16 == 1 {
             let first = at + 1;
             let rest = block.len() - first;
@@ -113,7 +112,7 @@ fn true_length(block: &[u8], at: usize) -> Integer
     ensures { λ r. ⌜ r ≡ trueLength at (drop at (now (block .entry))) ⌝ }
     ensures { λ r. ⌜ integerInside at (length (now (block .entry))) r ⌝ }
 {
-    let i = integer_at(block, at, Use::Length);
+    let i = integer_at(block, at);
     let Integer::One { bits, next } = i else {
         return i;
     };
@@ -137,7 +136,7 @@ pub fn key_at(block: &[u8], at: usize, strings: u32) -> Integer
     ensures { λ r. ⌜ r ≡ keyed strings at (drop at (now (block .entry))) ⌝ }
     ensures { λ r. ⌜ integerInside at (length (now (block .entry))) r ⌝ }
 {
-    let i = integer_at(block, at, Use::Key);
+    let i = integer_at(block, at);
     let Integer::One { bits, next } = i else {
         return i;
     };

@@ -5,7 +5,7 @@ use lib.Dec.{ltb, eqb}
 use lib.ListN.{take, drop}
 use Rattle.words.specs.Pick.{pick}
 use Rattle.types.specs.declared.Use.{Use}
-use Rattle.types.specs.declared.Use.the-variants.{Id, Allele, Filter, Key, Length, Info, Format, Gt}
+use Rattle.types.specs.declared.Use.the-variants.{Id, Allele, Filter, Integer, Info, Format, Gt}
 use Rattle.values.specs.Answers.{refusal}
 use Rattle.values.specs.Values.{present}
 use Rattle.values.specs.declared.Value.{Value}
@@ -28,8 +28,7 @@ mostOf Gt alleles t = codeMost alleles t
 mostOf Id alleles t = 0xFFFFFFFF
 mostOf Allele alleles t = 0xFFFFFFFF
 mostOf Filter alleles t = 0xFFFFFFFF
-mostOf Key alleles t = 0xFFFFFFFF
-mostOf Length alleles t = 0xFFFFFFFF
+mostOf Integer alleles t = 0xFFFFFFFF
 mostOf Info alleles t = 0xFFFFFFFF
 mostOf Format alleles t = 0xFFFFFFFF
 

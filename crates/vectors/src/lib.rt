@@ -398,8 +398,7 @@ fn most_of(role: Use, alleles: u32, code: u8) -> u32
         Use::Id => 0xFFFFFFFF,
         Use::Allele => 0xFFFFFFFF,
         Use::Filter => 0xFFFFFFFF,
-        Use::Key => 0xFFFFFFFF,
-        Use::Length => 0xFFFFFFFF,
+        Use::Integer => 0xFFFFFFFF,
         Use::Info => 0xFFFFFFFF,
         Use::Format => 0xFFFFFFFF,
     }

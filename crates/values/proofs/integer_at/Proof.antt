@@ -20,7 +20,7 @@ use Rattle.words.proofs.word.Reads as word-reads
 returns : tie.Need-returns
 unfolding integer
 returns c =
-    (rw (front (integer _ _) _ _, length-drop) (simp (le-leb _ _ (c .if1 .taken))), search needs)
+    (rw (front (integer _) _ _, length-drop) (simp (le-leb _ _ (c .if1 .taken))), search needs)
 
 shared-slice-read-d : tie.Need-shared-slice-read-d
 shared-slice-read-d c = search needs
@@ -47,7 +47,7 @@ add-t22 c = search needs
 returns-2 : tie.Need-returns-2
 unfolding integer
 returns-2 c = (
-  rw (front (integer _ _) _ _, length-drop) (simp (
+  rw (front (integer _) _ _, length-drop) (simp (
     lt-leb _ _ (c .before .before .before .before .before .before .before .if1 .left),
     ← c .before .before .before .before .before .row-of .ensures .0,
     ← c .before .before .before .before .before .row-of .ensures .1 .0,
@@ -80,7 +80,7 @@ shown-bits-requires c κs = search needs
 returns-3 : tie.Need-returns-3
 unfolding integer
 returns-3 c = (
-  rw (front (integer _ _) _ _, length-drop) (simp (
+  rw (front (integer _) _ _, length-drop) (simp (
     lt-leb _ _ (c .before .before .before .before .before .before .before .before .before .before .if1 .left),
     ← c .before .before .before .before .before .before .before .before .row-of .ensures .0,
     ← c .before .before .before .before .before .before .before .before .row-of .ensures .1 .0,
@@ -100,7 +100,7 @@ returns-3 c = (
 returns-4 : tie.Need-returns-4
 unfolding integer
 returns-4 c = (
-  rw (front (integer _ _) _ _, length-drop) (simp (
+  rw (front (integer _) _ _, length-drop) (simp (
     lt-leb _ _ (c .before .before .before .before .before .if1 .left),
     ← c .before .before .before .row-of .ensures .0,
     ← c .before .before .allows .ensures,
@@ -114,7 +114,7 @@ returns-4 c = (
 returns-5 : tie.Need-returns-5
 unfolding integer
 returns-5 c = (
-  rw (front (integer _ _) _ _, length-drop) (simp (
+  rw (front (integer _) _ _, length-drop) (simp (
     lt-leb _ _ (c .before .before .before .before .if1 .left),
     ← c .before .before .row-of .ensures .0,
     ← c .before .before .row-of .ensures .1 .0,

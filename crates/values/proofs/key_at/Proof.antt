@@ -27,8 +27,8 @@ returns c =
 is-outside-requires : tie.Need-is-outside-requires
 is-outside-requires c κs = search needs
 
-add-t9 : tie.Need-add-t9
-add-t9 c =
+add-t8 : tie.Need-add-t8
+add-t8 c =
     let i = rw (c .before .before .before .i .given .1) at (c .before .before .before .before .before .integer-at .ensures .1) in
     omega (arith, i)
 
@@ -67,6 +67,6 @@ key-at-spec =
     enum-told
     returns
     is-outside-requires
-    add-t9
+    add-t8
     returns-2
     returns-3)
