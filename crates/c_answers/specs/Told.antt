@@ -14,7 +14,7 @@ use Rattle.record.specs.declared.Reading.the-variants.{Accepted, Refused as Unr
 use Rattle.fetch.specs.declared.Found.{Found}
 use Rattle.fetch.specs.declared.Found.the-variants.{Field, Refused as NoField}
 use Rattle.elements.specs.declared.Shown.{Shown}
-use Rattle.elements.specs.declared.Shown.the-variants.{Bits, Nothing}
+use Rattle.elements.specs.Answers.{shownNumber, shownBits}
 use Rattle.calls.specs.declared.Calls.{Calls}
 use Rattle.tally.specs.declared.Counting.{Counting}
 use Rattle.tally.specs.declared.Counting.the-variants.{Counted, Refused as Uncounted}
@@ -98,10 +98,9 @@ abbrev pub openingAnswer : Opening → ℕ
 openingAnswer (Unopened r) = refusedAnswer r
 openingAnswer (First at) = answer 0 at
 
--- an element: the 32 bits that it is shown by, 16 past the last one
+-- an element: the 32 bits of the number, the float or the byte that it is shown as, 16 past the last one
 abbrev pub shownAnswer : Shown → ℕ
-shownAnswer Nothing = answer 16 0
-shownAnswer (Bits b) = answer 0 b
+shownAnswer e = answer (shownNumber e) (shownBits e)
 
 -- the tally: alleles and people, people without a genotype, missing alleles, and the calls of each of 64 alleles
 abbrev pub tallyNumbers : Site → Calls → List ℕ

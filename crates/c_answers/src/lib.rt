@@ -201,12 +201,14 @@ pub fn tell_opening(o: Opening) -> u64
     }
 }
 
-// Tells an element's 32 bits; 16 where there is none.
+// Tells the 32 bits of the number, the float or the byte that an element is shown as; 16 where there is none.
 pub fn tell_shown(e: Shown) -> u64
     ensures { λ q. ⌜ q ≡ shownAnswer e ⌝ }
 {
     match e {
-        Shown::Bits(b) => answer_of(0, b as usize),
+        Shown::Integer(z) => answer_of(0, words::bits(z) as usize),
+        Shown::Float(b) => answer_of(0, b as usize),
+        Shown::Text(b) => answer_of(0, b as usize),
         Shown::Nothing => answer_of(16, 0),
     }
 }

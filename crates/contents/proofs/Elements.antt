@@ -14,8 +14,8 @@ use Rattle.types.specs.Rows.{rowOf, widthOf}
 use Rattle.types.specs.Elements.{shown}
 use Rattle.vectors.specs.Vectors.{shownNumbers, elementsOf}
 use Rattle.fetch_laws.proofs.Fronts.{numbers-take, shownNumbers-numbers}
-use Rattle.elements.specs.Elements.{elementAt}
-use Rattle.elements.specs.declared.Shown.the-variants.{Bits, Nothing}
+use Rattle.elements.specs.Elements.{shownBy, elementAt}
+use Rattle.elements.specs.declared.Shown.the-variants.{Nothing}
 use Rattle.contents.specs.Fetched.{shownAt}
 
 pub elementsOf-take : (t size : ℕ) (l m : List ℕ) → take size l ≡ take size m → elementsOf t size l ≡ elementsOf t size m
@@ -34,7 +34,7 @@ elementsOf-none t l = rw (zero-div (widthOf t))
 
 -- one of the numbers at the front of a list
 shownAt-shownNumbers : (t w n : ℕ) (l : List ℕ) (i : ℕ)
-    → shownAt (shownNumbers t w n l) i ≡ pick (leb n i) Nothing (Bits (shown t (number w (drop (i * w) l))))
+    → shownAt t (shownNumbers t w n l) i ≡ pick (leb n i) Nothing (shownBy t (shown t (number w (drop (i * w) l))))
 unfolding shownNumbers
 shownAt-shownNumbers t w zero l i = rw leb·zero
 shownAt-shownNumbers t w (suc n) l zero = rw (leb·suc-zero, zero-mul w)
@@ -43,7 +43,7 @@ shownAt-shownNumbers t w (suc n) l (suc i) =
     rw (leb·suc-suc, shownAt-shownNumbers t w n (drop w l) i, drop-drop (i * w) w l, e)
 
 -- so many bytes at the front of a list, as a part: its elements are those of the list
-pub shownAt-elementsOf : (t size : ℕ) (l : List ℕ) → size ≤ length l → (i : ℕ) → elementAt t i (take size l) ≡ shownAt (elementsOf t size l) i
+pub shownAt-elementsOf : (t size : ℕ) (l : List ℕ) → size ≤ length l → (i : ℕ) → elementAt t i (take size l) ≡ shownAt t (elementsOf t size l) i
 unfolding elementAt elementsOf
 shownAt-elementsOf t size l h i =
     let w = widthOf t in
@@ -76,10 +76,3 @@ text-bytes (suc n) (b ∷ l) h = rw (shown-text b l, text-bytes n l (omega arith
 pub elementsOf-text : (size : ℕ) (l : List ℕ) → size ≤ length l → elementsOf 7 size l ≡ take size l
 unfolding elementsOf widthOf rowOf
 elementsOf-text size l h = rw (div-one size) (text-bytes size l h)
-
--- what is answered at every index says which elements they are
-pub shownAt-same : (xs ys : List ℕ) → ((i : ℕ) → shownAt xs i ≡ shownAt ys i) → xs ≡ ys
-shownAt-same [] [] h = refl
-shownAt-same [] (y ∷ ys) h = let e = h 0 in cc
-shownAt-same (x ∷ xs) [] h = let e = h 0 in cc
-shownAt-same (x ∷ xs) (y ∷ ys) h = let e : x ≡ y = let e = h 0 in cc in rw (e, shownAt-same xs ys (λ i. h (suc i)))

@@ -13,16 +13,17 @@ use Rattle.fetch.specs.Fetch.{found, fetched}
 use Rattle.fetch.specs.declared.Kind.{Kind}
 use Rattle.fetch.specs.declared.Kind.the-variants.{Id, Allele, Filter, Info, Format}
 use Rattle.fetch.specs.declared.Found.the-variants.{Field as Found, Refused}
-use Rattle.elements.specs.Elements.{elementAt}
+use Rattle.elements.specs.Elements.{shownBy, elementAt}
 use Rattle.elements.specs.declared.Shown.{Shown}
-use Rattle.elements.specs.declared.Shown.the-variants.{Bits, Nothing}
+use Rattle.elements.specs.declared.Shown.the-variants.{Nothing}
 use Rattle.contents.specs.Contents.{shownOf}
 
--- the element of a list at an index, as `element_at` answers; nothing past the last one
-abbrev pub shownAt : List ℕ → ℕ → Shown
-shownAt [] i = Nothing
-shownAt (x ∷ xs) zero = Bits x
-shownAt (x ∷ xs) (suc i) = shownAt xs i
+-- the element of a list at an index, as `element_at` answers it of a part of this type: what its 32 bits say, an integer's as the signed number that
+-- they are; nothing past the last one
+abbrev pub shownAt : ℕ → List ℕ → ℕ → Shown
+shownAt t [] i = Nothing
+shownAt t (x ∷ xs) zero = shownBy t x
+shownAt t (x ∷ xs) (suc i) = shownAt t xs i
 
 -- the field of a kind and a number is found, and not refused, with this key, type and length; the elements of the part that is fetched, each shown
 -- by that type, are these at every index; and they are so many vectors of that length
@@ -30,7 +31,7 @@ pub record Gives (f : Facts) (s : List ℕ) (kind : Kind) (number vectors key co
   pub place : ℕ
   pub stop : ℕ
   pub there : found f kind number s ≡ Found key code len place stop
-  pub shows : (i : ℕ) → elementAt code i (fetched f kind number s) ≡ shownAt xs i
+  pub shows : (i : ℕ) → elementAt code i (fetched f kind number s) ≡ shownAt code xs i
   pub count : length xs ≡ vectors * len
 
 -- ID or an allele: text, with no key; so it is the bytes that are fetched

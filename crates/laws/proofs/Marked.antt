@@ -8,14 +8,14 @@ use Rattle.values.specs.Values.{integer, trueLength, mayStand, described, prese
 use Rattle.vectors.specs.Vectors.{numbers, vector, vectors, judged}
 use Rattle.vectors.specs.Sound.{highest, codeMost}
 use Rattle.fixed.specs.Layout.{indivAt, field}
-use Rattle.elements.specs.Elements.{codeCall, callAt}
+use Rattle.elements.specs.Elements.{shownBy, elementAt, codeCall, callAt}
 use Rattle.tally.specs.declared.Tallied.{Tallied}
 use Rattle.laws.specs.Marked.{Marked}
 use Rattle.laws.proofs.Cut.{sample-cut}
 use Rattle.laws.proofs.Sample.{sample-read}
 
 pub examples : Marked
-unfolding le number rowOf widthOf marked kind widened shown narrowest integer trueLength mayStand described present numbers vector vectors judged highest codeMost codeCall callAt field
+unfolding le number rowOf widthOf marked kind widened shown narrowest integer trueLength mayStand described present numbers vector vectors judged highest codeMost shownBy elementAt codeCall callAt field
 examples =
     record {
       m1 = λ rest. refl;

@@ -24,7 +24,9 @@ use Rattle.fetch.specs.declared.Found.the-variants.{Field}
 use Rattle.fetch_laws.specs.InTurn.{judging, inTurn, InTurn, Accepts, gtIn, formatsInTurn, withGt}
 use Rattle.walker.specs.Walk.{asPair, pairAt, opened, walkedTo}
 use Rattle.walker.specs.declared.Opening.the-variants.{First}
+use Rattle.shown.specs.Shown.{kindOf}
 use Rattle.contents.specs.Fetched.{shownAt, ShownFetched}
+use Rattle.build_laws.specs.Records.{Fit}
 
 pub record Accounts : Type 0 where
   -- of an accepted record every part is there: ID, as many alleles as it says, FILTER, as many INFO pairs, as many FORMAT fields
@@ -54,5 +56,6 @@ pub record Accounts : Type 0 where
       → ((n code len place stop : ℕ) → found f Format n s ≢ Field (f .gt) code len place stop) → g ≡ noGt
   -- what a record shows is what is fetched of it: keys, lengths and elements of every kind and number, and as many as the counts say
   pub shown : (f : Facts) (s : List ℕ) (t : Site) (g : Gt) → reading f s ≡ Accepted t g → ShownFetched f s t
-  -- and elements that are answered the same at every index are the same elements
-  pub elements : (xs ys : List ℕ) → ((i : ℕ) → shownAt xs i ≡ shownAt ys i) → xs ≡ ys
+  -- and elements that are answered the same at every index are the same elements, where each is as large as its kind has them (`keeps` of Tightening:
+  -- those of an accepted record are)
+  pub elements : (t : ℕ) (xs ys : List ℕ) → Fit (kindOf t) xs → Fit (kindOf t) ys → ((i : ℕ) → shownAt t xs i ≡ shownAt t ys i) → xs ≡ ys

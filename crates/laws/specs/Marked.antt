@@ -7,15 +7,16 @@ use Prim.Native.Nat.{ℕ}
 use lib.IntN.{pos, negsuc}
 use lib.ListN.{take, drop}
 use mir.Syntax.{w32}
-use mir.Val.{toZ, ofZ}
-use Rattle.types.specs.Elements.{shown, narrowest}
+use mir.Val.{ofZ}
+use Rattle.types.specs.Elements.{narrowest}
 use Rattle.types.specs.declared.Use.the-variants.{Id, Info, Gt}
 use Rattle.values.specs.Answers.{typed, noDescriptor, whole}
 use Rattle.values.specs.Values.{described, present}
 use Rattle.vectors.specs.Sound.{mostOf}
 use Rattle.vectors.specs.Vectors.{judged, unsound}
 use Rattle.vectors.specs.declared.Judged.the-variants.{Sound}
-use Rattle.elements.specs.Elements.{callAt}
+use Rattle.elements.specs.Elements.{elementAt, callAt}
+use Rattle.elements.specs.declared.Shown.the-variants.{Integer}
 use Rattle.elements.specs.declared.Call.the-variants.{Allele}
 use Rattle.tally.specs.Tally.{tallied}
 use Rattle.fixed.specs.Layout.{indivAt, field}
@@ -49,7 +50,7 @@ pub record Marked : Type 0 where
   pub m7-below : narrowest (ofZ w32 (negsuc 32760)) ≡ 3
   pub m7-above : narrowest (ofZ w32 (pos 32768)) ≡ 3
   -- M8 type 1: `80` shows −2147483648, `82` gives 9
-  pub m8-shown : toZ w32 (shown 1 0x80) ≡ negsuc 2147483647
+  pub m8-shown : elementAt 1 0 (0x80 ∷ []) ≡ Integer (negsuc 2147483647)
   pub m8-refused : judged any 1 1 (0x82 ∷ []) ≡ unsound 9 0
   -- M9 `31 05 81 81` is accepted; `31 05 81 06` gives 9 at its last byte, which is byte 2 of the elements
   pub m9-whole : (last : ℕ) → present 1 Info 0 (0x31 ∷ 0x05 ∷ 0x81 ∷ last ∷ []) ≡ whole 1 3 1 4

@@ -1,77 +1,74 @@
 -- `elements::call_at` meets its contract.
-use mathlib.Core.Path.{_∙_}
-use Prim.Native.Nat.{_*_}
-use native.Mathlib.Omega.{arith}
-use borrow.Author.Tests.{le-leb, lt-leb}
-use Rattle.words.proofs.Words.{number-at}
-use Rattle.elements.specs.Elements.{callAt}
-use Rattle.elements.proofs.Inside.{element-inside}
+use Rattle.elements.specs.Elements.{callOf, callAt}
+use mathlib.Core.Path.{ap}
+use mir.Syntax.{w32}
+use mir.Val.{ofZ}
+use Rattle.words.proofs.Sign.{back}
+use Rattle.types.specs.Elements.{kind}
 use borrow.Author.Needs.{needs}
 use Rattle.elements.proofs.call_at.Statement.{statement}
 use Rattle.elements.proofs.call_at.Tie as tie
 use Rattle.elements.proofs.call_at.Reads as reads
 use Rattle.elements.proofs.call_at.Lts as lts
 use Rattle.elements.proofs.call_of.Reads as call-of-reads
-use Rattle.types.proofs.row_of.Reads as row-of-reads
-use Rattle.words.proofs.over.Reads as over-reads
-use Rattle.words.proofs.word.Reads as word-reads
+use Rattle.elements.proofs.element_at.Reads as element-at-reads
+use Rattle.words.proofs.bits.Reads as bits-reads
 
-row-of-requires : tie.Need-row-of-requires
-row-of-requires c κs = search needs
+element-at-requires : tie.Need-element-at-requires
+element-at-requires c κs = search needs
 
-cast-w : tie.Need-cast-w
-cast-w c = search needs
+enum-known-e : tie.Need-enum-known-e
+enum-known-e c = search needs
 
-over-requires : tie.Need-over-requires
-over-requires c κs = search needs
-
-returns : tie.Need-returns
-unfolding callAt
-returns c =
-    simp (← c .before .before .before .row-of .ensures .1 .0, ← c .before .over .ensures .0, le-leb _ _ (c .if1 .taken))
-
-mul-at : tie.Need-mul-at
-mul-at c = omega (arith, element-inside (c .before .before .before .before .before .args .index) _ (c .before .before .before .row-of .result .width) _ (c .if1 .left) (c .before .over .ensures .1))
-
-add-stop : tie.Need-add-stop
-add-stop c = omega (arith, element-inside (c .before .before .before .before .before .args .index) _ (c .before .before .before .row-of .result .width) _ (c .if1 .left) (c .before .over .ensures .1))
-
-sub-word : tie.Need-sub-word
-sub-word c = search needs
-
-part-word-start : tie.Need-part-word-start
-part-word-start c = search needs
-
-part-word-end : tie.Need-part-word-end
-part-word-end c = omega (arith, element-inside (c .before .before .before .before .before .args .index) _ (c .before .before .before .row-of .result .width) _ (c .if1 .left) (c .before .over .ensures .1))
-
-word-requires : tie.Need-word-requires
-word-requires c κs = search needs
+bits-requires : tie.Need-bits-requires
+bits-requires c κs = search needs
 
 call-of-requires : tie.Need-call-of-requires
 call-of-requires c κs = search needs
 
+enum-told : tie.Need-enum-told
+enum-told c = search needs
+
+enum-told-2 : tie.Need-enum-told-2
+enum-told-2 c = search needs
+
+enum-told-3 : tie.Need-enum-told-3
+enum-told-3 c = search needs
+
+returns : tie.Need-returns
+unfolding callAt
+returns c =
+    let z = c .before .before .before .e .given .0 .0 in
+    let k = back z (record { sfits = c .before .before .known-told .given .0 .1 }) in
+    rw (← c .before .before .before .before .before .element-at .ensures, c .before .before .before .e .given .1, c .call-of .ensures, c .before .bits .ensures, k) (ap (callOf (kind 3 (ofZ w32 z))) k)
+
+-- fill: f9798ea8
 returns-2 : tie.Need-returns-2
 unfolding callAt
-returns-2 c =
-    let a = c .before .before .before .before .before .before .before .before .args in
-    let w = c .before .before .before .before .before .before .row-of .result .width in
-    let e = c .before .word .ensures ∙ number-at (a .part .now) (a .index * w) w (c .before .before .before .before .before .before .row-of .ensures .1 .1) in
-    simp (← c .before .before .before .before .before .before .row-of .ensures .1 .0, ← c .before .before .before .before .over .ensures .0, lt-leb _ _ (c .before .before .before .if1 .left), ← e, c .call-of .ensures)
+returns-2 c = simp (← c .before .before .element-at .ensures, c .enum-told .given .1)
+
+-- fill: 280425c8
+returns-3 : tie.Need-returns-3
+unfolding callAt
+returns-3 c = simp (← c .before .before .element-at .ensures, c .enum-told2 .given .1)
+
+-- fill: bb0fb8b4
+returns-4 : tie.Need-returns-4
+unfolding callAt
+returns-4 c = simp (← c .before .before .element-at .ensures, c .enum-told3 .given .1)
 
 pub call-at-spec : {M : Type 1} → statement M
 call-at-spec =
     tie.close
     (tie.spec
-    row-of-requires
-    cast-w
-    over-requires
-    returns
-    mul-at
-    add-stop
-    sub-word
-    part-word-start
-    part-word-end
-    word-requires
+    element-at-requires
+    enum-known-e
+    bits-requires
     call-of-requires
-    returns-2)
+    enum-told
+    enum-told-2
+    enum-told-3
+    returns
+    returns-2
+    returns-3
+    returns-4)

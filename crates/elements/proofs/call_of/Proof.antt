@@ -25,9 +25,6 @@ code-call-requires c κs = search needs
 enum-told-4 : tie.Need-enum-told-4
 enum-told-4 c = search needs
 
-code-call-requires-2 : tie.Need-code-call-requires-2
-code-call-requires-2 c κs = search needs
-
 -- fill: 49ffab66
 returns : tie.Need-returns
 returns c = simp (← c .before .before .element-of .ensures, c .enum-told .given .1)
@@ -41,10 +38,9 @@ returns-3 : tie.Need-returns-3
 returns-3 c =
     simp (← c .before .before .before .element-of .ensures, c .before .enum-told3 .given .1, c .code-call .ensures)
 
--- fill: 18c747b0
+-- fill: 3f950ece
 returns-4 : tie.Need-returns-4
-returns-4 c =
-    simp (← c .before .before .before .element-of .ensures, c .before .enum-told4 .given .1, c .code-call2 .ensures)
+returns-4 c = simp (← c .before .before .element-of .ensures, c .enum-told4 .given .1)
 
 pub call-of-spec : {M : Type 1} → statement M
 call-of-spec =
@@ -56,7 +52,6 @@ call-of-spec =
     enum-told-3
     code-call-requires
     enum-told-4
-    code-call-requires-2
     returns
     returns-2
     returns-3

@@ -5,16 +5,24 @@ use native.Mathlib.Omega.{arith}
 use borrow.Author.Tests.{le-leb, lt-leb}
 use Rattle.words.proofs.Words.{number-at}
 use Rattle.elements.specs.Elements.{elementAt}
-use Rattle.elements.proofs.Inside.{element-inside}
+use Rattle.elements.proofs.Elements.{element-inside}
 use borrow.Author.Needs.{needs}
 use Rattle.elements.proofs.element_at.Statement.{statement}
 use Rattle.elements.proofs.element_at.Tie as tie
 use Rattle.elements.proofs.element_at.Reads as reads
 use Rattle.elements.proofs.element_at.Lts as lts
+use Rattle.elements.proofs.number_shown.Reads as number-shown-reads
+use Rattle.elements.proofs.text_at.Reads as text-at-reads
 use Rattle.types.proofs.row_of.Reads as row-of-reads
 use Rattle.types.proofs.shown_bits.Reads as shown-bits-reads
 use Rattle.words.proofs.over.Reads as over-reads
 use Rattle.words.proofs.word.Reads as word-reads
+
+text-at-requires : tie.Need-text-at-requires
+text-at-requires c κs = search needs
+
+returns : tie.Need-returns
+returns c = rw (c .before .if1 .taken) (c .text-at .ensures)
 
 row-of-requires : tie.Need-row-of-requires
 row-of-requires c κs = search needs
@@ -25,16 +33,16 @@ cast-w c = search needs
 over-requires : tie.Need-over-requires
 over-requires c κs = search needs
 
-returns : tie.Need-returns
+returns-2 : tie.Need-returns-2
 unfolding elementAt
-returns c =
-    simp (← c .before .before .before .row-of .ensures .1 .0, ← c .before .over .ensures .0, le-leb _ _ (c .if1 .taken))
+returns-2 c =
+    simp (← c .before .before .before .row-of .ensures .1 .0, ← c .before .over .ensures .0, le-leb _ _ (c .if2 .taken))
 
 mul-at : tie.Need-mul-at
-mul-at c = omega (arith, element-inside (c .before .before .before .before .before .args .index) _ (c .before .before .before .row-of .result .width) _ (c .if1 .left) (c .before .over .ensures .1))
+mul-at c = omega (arith, element-inside (c .before .before .before .before .before .before .args .index) _ (c .before .before .before .row-of .result .width) _ (c .if2 .left) (c .before .over .ensures .1))
 
 add-stop : tie.Need-add-stop
-add-stop c = omega (arith, element-inside (c .before .before .before .before .before .args .index) _ (c .before .before .before .row-of .result .width) _ (c .if1 .left) (c .before .over .ensures .1))
+add-stop c = omega (arith, element-inside (c .before .before .before .before .before .before .args .index) _ (c .before .before .before .row-of .result .width) _ (c .if2 .left) (c .before .over .ensures .1))
 
 sub-word : tie.Need-sub-word
 sub-word c = search needs
@@ -43,7 +51,7 @@ part-word-start : tie.Need-part-word-start
 part-word-start c = search needs
 
 part-word-end : tie.Need-part-word-end
-part-word-end c = omega (arith, element-inside (c .before .before .before .before .before .args .index) _ (c .before .before .before .row-of .result .width) _ (c .if1 .left) (c .before .over .ensures .1))
+part-word-end c = omega (arith, element-inside (c .before .before .before .before .before .before .args .index) _ (c .before .before .before .row-of .result .width) _ (c .if2 .left) (c .before .over .ensures .1))
 
 word-requires : tie.Need-word-requires
 word-requires c κs = search needs
@@ -51,22 +59,27 @@ word-requires c κs = search needs
 shown-bits-requires : tie.Need-shown-bits-requires
 shown-bits-requires c κs = search needs
 
-returns-2 : tie.Need-returns-2
+number-shown-requires : tie.Need-number-shown-requires
+number-shown-requires c κs = search needs
+
+returns-3 : tie.Need-returns-3
 unfolding elementAt
-returns-2 c =
-    let a = c .before .before .before .before .before .before .before .before .args in
-    let w = c .before .before .before .before .before .before .row-of .result .width in
-    let e = c .before .word .ensures ∙ number-at (a .part .now) (a .index * w) w (c .before .before .before .before .before .before .row-of .ensures .1 .1) in
-    simp (← c .before .before .before .before .before .before .row-of .ensures .1 .0, ← c .before .before .before .before .over .ensures .0, lt-leb _ _ (c .before .before .before .if1 .left), ← e, c .shown-bits .ensures)
+returns-3 c =
+    let a = c .before .before .before .before .before .before .before .before .before .before .args in
+    let row = c .before .before .before .before .before .before .before .row-of in
+    let e = c .before .before .word .ensures ∙ number-at (a .part .now) (a .index * row .result .width) (row .result .width) (row .ensures .1 .1) in
+    simp (← row .ensures .1 .0, ← c .before .before .before .before .before .over .ensures .0, lt-leb _ _ (c .before .before .before .before .if2 .left), ← e, ← c .before .shown-bits .ensures, c .number-shown .ensures)
 
 pub element-at-spec : {M : Type 1} → statement M
 element-at-spec =
     tie.close
     (tie.spec
+    text-at-requires
+    returns
     row-of-requires
     cast-w
     over-requires
-    returns
+    returns-2
     mul-at
     add-stop
     sub-word
@@ -74,4 +87,5 @@ element-at-spec =
     part-word-end
     word-requires
     shown-bits-requires
-    returns-2)
+    number-shown-requires
+    returns-3)
