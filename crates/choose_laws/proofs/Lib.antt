@@ -14,3 +14,4 @@ pub mod Shows
 pub mod Sites
 pub mod Stored
 pub mod Tallies
+pub mod Bytes
