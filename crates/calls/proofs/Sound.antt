@@ -34,10 +34,10 @@ at-most-append m [] ys a b = b
 at-most-append m (x ∷ xs) ys a b = at-most-cons m x (xs ++ ys) (a 0) (at-most-append m xs ys (λ j. a (suc j)) b)
 
 -- what is refused is not sound
-refused : {P : Type 0} (r : Refusal) → Unsound r ≡ Sound → P
+pub refused : {P : Type 0} (r : Refusal) → Unsound r ≡ Sound → P
 refused r h = let z : _≡_ {A = ℕ} 0 1 = cc in absurd (omega arith)
 
-both-sound : (a b : Judged) → andThen a b ≡ Sound → (a ≡ Sound) × (b ≡ Sound)
+pub both-sound : (a b : Judged) → andThen a b ≡ Sound → (a ≡ Sound) × (b ≡ Sound)
 both-sound Sound b h = (refl, h)
 both-sound (Unsound r) b h = refused r h
 

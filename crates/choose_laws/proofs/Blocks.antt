@@ -116,7 +116,7 @@ pub record Block (strings people gt alleles n : ℕ) (earlier : List ℕ) (known
   pub same : SameGt people cs s s′ g known
 
 -- no field is left, and no byte
-formats-ended : (strings people gt alleles : ℕ) (earlier : List ℕ) (known : Gt) (at : ℕ) (l : List ℕ) {g : Gt}
+pub formats-ended : (strings people gt alleles : ℕ) (earlier : List ℕ) (known : Gt) (at : ℕ) (l : List ℕ) {g : Gt}
     → formats strings people gt alleles zero earlier known at l ≡ Sound g → known ≡ g
 unfolding formats
 formats-ended strings people gt alleles earlier known at [] h = cc

@@ -206,7 +206,7 @@ pub data Part (g : Gt) (n : ℕ) (s cs : List ℕ) (g′ : Gt) (s′ : List ℕ)
   none : cs ≡ [] → g′ .len ≡ 0 → Part g n s cs g′ s′
 
 -- the tally of a part that has just its people's elements; where these have no width, there are none
-counted-people : (t len n : ℕ) (l : List ℕ) → 0 < len → 0 < widthOf t → length l ≡ n * len * widthOf t
+pub counted-people : (t len n : ℕ) (l : List ℕ) → 0 < len → 0 < widthOf t → length l ≡ n * len * widthOf t
     → counted t len l ≡ peopleTally t (people (widthOf t) len n l)
 unfolding counted peopleOf
 counted-people t len n l p q e = rw (e, mul-div-cancel (n * len) q, mul-div-cancel n p)

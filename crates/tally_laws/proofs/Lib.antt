@@ -1,0 +1,2 @@
+pub mod Gt
+pub mod Slots

@@ -1,0 +1,1 @@
+// What holds of the tally of an accepted record: no code.
