@@ -9,3 +9,4 @@ pub mod Fetched
 pub mod Marked
 pub mod Sample
 pub mod Tightening
+pub mod Tallying

@@ -12,7 +12,7 @@ use lib.Seq.{length-take-le}
 use Rattle.words.specs.Pick.{pick}
 use Rattle.words.specs.Words.{Bytes}
 use Rattle.words.proofs.Places.{drop-on}
-use Rattle.types.specs.Rows.{widthOf}
+use Rattle.types.specs.Rows.{rowOf, widthOf, allowed}
 use Rattle.types.specs.declared.Use.the-variants.{Gt as GtUse}
 use Rattle.values.specs.declared.Value.the-variants.{Present}
 use Rattle.vectors.specs.Sound.{codeMost, mostOf, sound}
@@ -34,6 +34,7 @@ use Rattle.fetch_laws.proofs.Present.{present-typed}
 use Rattle.choose_laws.proofs.Blocks.{formats-ended}
 use Rattle.choose_laws.proofs.Filled.{opened}
 use Rattle.choose_laws.proofs.Stored.{Bytes-drop, Bytes-take}
+use Rattle.keeps_laws.proofs.Elements.{by-wide}
 use Rattle.keeps_laws.proofs.Descriptors.{Stands, empty, filled, described-long}
 
 -- the bytes of GT's elements
@@ -44,13 +45,29 @@ pub record GtSound (people alleles : ℕ) (s : List ℕ) (g : Gt) : Type 0 where
   pub inside : g .first + people * g .len * widthOf (g .code) ≤ length s
   pub codes : judged (codeMost alleles (g .code)) (g .code) (g .len) (gtPart people g s) ≡ Sound
   pub wide : 0 < g .len → 0 < widthOf (g .code)
+  pub integers : 0 < g .len → (0 < g .code) × (g .code < 4)
+
+-- all its elements are there
+pub length-gtPart : (people alleles : ℕ) (s : List ℕ) (g : Gt) → GtSound people alleles s g
+    → length (gtPart people g s) ≡ people * g .len * widthOf (g .code)
+length-gtPart people alleles s g h =
+    let i = h .inside in
+    length-take-le (people * g .len * widthOf (g .code)) (drop (g .first) s) (rw (length-drop (g .first) s) (omega arith))
 
 -- where there is no GT there is nothing to judge
 no-gt : (people alleles : ℕ) (s : List ℕ) → GtSound people alleles s noGt
 unfolding judged vectors widthOf
 no-gt people alleles s =
     let e : people * 0 * widthOf 0 ≡ 0 = rw (mul-zero people, zero-mul (widthOf 0)) in
-    record { inside = omega arith; codes = rw (e, div-zero (0 / widthOf 0)); wide = λ h. absurd (omega arith) }
+    record { inside = omega arith; codes = rw (e, div-zero (0 / widthOf 0)); wide = λ h. absurd (omega arith); integers = λ h. absurd (omega arith) }
+
+-- a type with a width that GT may have is one of integers
+gt-integers : (t : ℕ) → 0 < widthOf t → allowed (rowOf t) GtUse ≡ true → (0 < t) × (t < 4)
+unfolding rowOf
+gt-integers t w h =
+    by-wide (λ t. allowed (rowOf t) GtUse ≡ true → (0 < t) × (t < 4)) (λ e. (omega arith, omega arith)) (λ e. (omega arith, omega arith))
+    (λ e. (omega arith, omega arith)) (λ e. let z : _≡_ {A = ℕ} 0 1 = cc in absurd (omega arith))
+    (λ e. let z : _≡_ {A = ℕ} 0 1 = cc in absurd (omega arith)) t w h
 
 -- a field that is judged as GT
 field-sound : (strings people gt alleles n : ℕ) (earlier : List ℕ) (known : Gt) (at : ℕ) (s : List ℕ) {g : Gt} → Bytes s → at ≤ length s
@@ -73,6 +90,7 @@ field-sound strings people gt alleles n earlier known at s b i j role =
       inside = omega arith;
       codes = rw (same, size) at (sound-judged people alleles GtUse (j .next) l (j .code) (j .len) (j .first) (j .stop) value);
       wide = λ h. by-stands (stands .there) h;
+      integers = λ h. gt-integers (j .code) (by-stands (stands .there) h) (stands .fits);
     }
   where
     by-stands : Stands (j .code) (j .len) → 0 < j .len → 0 < widthOf (j .code)
@@ -116,4 +134,4 @@ accepted-gt-sound f s t g b h =
     (rw e x) (no-gt (f .people) (t .alleles) u) (accepted f s t g h .genotypes) in
     let i = r .inside in
     let p = part-of s (g .first) (f .people * g .len * widthOf (g .code)) (t .length) (omega arith) in
-    rw (o .given) (record { inside = omega arith; codes = rw p at (r .codes); wide = r .wide })
+    rw (o .given) (record { inside = omega arith; codes = rw p at (r .codes); wide = r .wide; integers = r .integers })

@@ -1,2 +1,3 @@
 pub mod Gt
 pub mod Slots
+pub mod Calls

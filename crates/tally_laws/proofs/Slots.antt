@@ -33,7 +33,7 @@ use Rattle.tally.specs.Tally.{callsOf, nobody, tallied}
 use Rattle.tally.proofs.Parts.{callsOf-none, callsOf-part}
 use Rattle.choose_laws.proofs.Divided.{counted-people, tallied-accepted}
 use Rattle.tally_laws.specs.Slots.{gtPeople, isSlot, slotsOf, allSlots, isSome, count}
-use Rattle.tally_laws.proofs.Gt.{gtPart, GtSound, accepted-gt-sound}
+use Rattle.tally_laws.proofs.Gt.{gtPart, GtSound, length-gtPart}
 
 -- in a vector that is sound nothing but ends follows an end
 ended-none : (most t w at : ℕ) (xs : List ℕ) → vector most t w at true xs ≡ Sound → slotsOf t xs ≡ []
@@ -104,7 +104,7 @@ without-slots t (p ∷ ps) h =
     by-slots (x ∷ xs) e = omega arith
 
 -- people of no elements
-people-none : (w n : ℕ) (l : List ℕ) → people w 0 n l ≡ replicate n []
+pub people-none : (w n : ℕ) (l : List ℕ) → people w 0 n l ≡ replicate n []
 unfolding people numbers
 people-none w zero l = refl
 people-none w (suc n) l = rw (people-none w n (drop (0 * w) l))
@@ -122,15 +122,14 @@ tally-none t n = rw (without-none n, called-none n, sym (raised-zeros 65 0 []), 
     called-none (suc n) = called-none n
 
 -- the tally of an accepted record's GT is that of each person's elements
-tally-people : (n alleles : ℕ) (s : List ℕ) (g : Gt) → GtSound n alleles s g → callsOf g n s ≡ peopleTally (g .code) (gtPeople g n s)
+pub tally-people : (n alleles : ℕ) (s : List ℕ) (g : Gt) → GtSound n alleles s g → callsOf g n s ≡ peopleTally (g .code) (gtPeople g n s)
 unfolding gtPeople
 tally-people n alleles s g h = by-length (g .len) refl
   where
     by-length : (len : ℕ) → g .len ≡ len → callsOf g n s ≡ peopleTally (g .code) (gtPeople g n s)
     by-length zero e = callsOf-none g n s e ∙ sym (rw (e, people-none) (tally-none (g .code) n))
     by-length (suc len) e =
-        let i = h .inside in
-        let k = length-take-le (n * g .len * widthOf (g .code)) (drop (g .first) s) (rw (length-drop (g .first) s) (omega arith)) in
+        let k = length-gtPart n alleles s g h in
         callsOf-part g n s (λ z. omega arith) ∙ counted-people (g .code) (g .len) n (gtPart n g s) (omega arith) (h .wide (omega arith)) k
 
 no-slots : (t n : ℕ) → map (slots t) (replicate n []) ≡ map (slotsOf t) (replicate n [])
@@ -147,8 +146,7 @@ slots-people n alleles s g h = by-length (g .len) refl
     by-length : (len : ℕ) → g .len ≡ len → map (slots (g .code)) (gtPeople g n s) ≡ map (slotsOf (g .code)) (gtPeople g n s)
     by-length zero e = rw (e, people-none) (no-slots (g .code) n)
     by-length (suc len) e =
-        let i = h .inside in
-        let k = length-take-le (n * g .len * widthOf (g .code)) (drop (g .first) s) (rw (length-drop (g .first) s) (omega arith)) in
+        let k = length-gtPart n alleles s g h in
         let p : 0 < g .len = omega arith in
         people-slots (codeMost alleles (g .code)) (g .code) (widthOf (g .code)) (g .len) n 0 (gtPart n g s)
         (rw (k, mul-div-cancel (n * g .len) (h .wide p), mul-div-cancel n p) at (h .codes))
@@ -167,8 +165,7 @@ tally-slots n alleles s g a h = by-length (g .len) refl ∙ slotCount-slots (g .
     by-length : (len : ℕ) → g .len ≡ len → total (callsOf g n s .counts) ≡ slotCount (g .code) (gtPeople g n s)
     by-length zero e = rw (callsOf-none g n s e, e, people-none, slotCount-none (g .code) n)
     by-length (suc len) e =
-        let i = h .inside in
-        let k = length-take-le (n * g .len * widthOf (g .code)) (drop (g .first) s) (rw (length-drop (g .first) s) (omega arith)) in
+        let k = length-gtPart n alleles s g h in
         let p : 0 < g .len = omega arith in
         rw (callsOf-part g n s (λ z. omega arith))
         (rw (k, mul-div-cancel (n * g .len) (h .wide p), mul-div-cancel n p) at (sound-slots alleles (g .code) (g .len) (gtPart n g s) a (h .codes)))
