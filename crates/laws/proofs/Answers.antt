@@ -105,6 +105,8 @@ promises-fix =
     record {
       one = λ promised first second p q. p ∙ sym q;
       both = λ promised first second p q. λ i. ((p .0 ∙ sym (q .0)) i, (p .1 ∙ sym (q .1)) i);
+      three = λ a a′ a″ b b′ b″ c c′ c″ p q. (p .0 ∙ sym (q .0), p .1 ∙ sym (q .1), p .2 ∙ sym (q .2));
+      part = λ first second contents place p q. (p .0 ∙ sym (q .0), p .1 ∙ sym (q .1));
       number = number-told;
       low = low-told;
       fresh = fresh-ranges;

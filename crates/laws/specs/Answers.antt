@@ -1,10 +1,12 @@
 -- Promises fix answers. The promise of every public function is an equation, between what it answers, or what a lent buffer holds
--- afterwards, and a definition of what it was given; so two answers that meet it are equal. And what is told to other languages in numbers
--- can be read from them, so that a record that was read once is fetched from without reading it again. Rests on c_answers and c_state for what is told.
+-- afterwards, and a definition of what it was given; so two answers that meet it are equal. `tools/promises` reads every public contract and fails the
+-- gate where it is not of one of the shapes below. And what is told to other languages in numbers can be read from them, so that a record that was read
+-- once is fetched from without reading it again. Rests on c_answers and c_state for what is told.
 use Prim.Native.Nat.{ℕ, _/_, _%_, _<_}
 use mathlib.Core.Path.{_≡_}
 use mathlib.Core.List.{List, _++_}
 use lib.ListN.{length}
+use denote.Ref.{RefT, now}
 use Rattle.words.specs.Words.{Bytes}
 use Rattle.values.specs.Answers.{refusal}
 use Rattle.facts.specs.declared.Facts.{Facts}
@@ -41,9 +43,15 @@ pub record SiteRanges (t : Site) : Type 0 where
 pub record Answers : Type 1 where
   -- two answers that meet a promise are equal, of whatever kind: a number, an enum, a struct, a list of bytes
   pub one : {A : Type 0} (promised first second : A) → first ≡ promised → second ≡ promised → first ≡ second
-  -- so are an answer and a buffer together, each promised by its own equation
+  -- so are an answer and a buffer together, each promised by its own equation; and an answer with two lent buffers, or with a state and a buffer
   pub both : {A B : Type 0} (promised : A × B) (first second : A × B) → (first .0 ≡ promised .0) × (first .1 ≡ promised .1)
       → (second .0 ≡ promised .0) × (second .1 ≡ promised .1) → first ≡ second
+  pub three : {A B C : Type 0} (a a′ a″ : A) (b b′ b″ : B) (c c′ c″ : C) → (a′ ≡ a) × (b′ ≡ b) × (c′ ≡ c) → (a″ ≡ a) × (b″ ≡ b) × (c″ ≡ c)
+      → (a′ ≡ a″) × (b′ ≡ b″) × (c′ ≡ c″)
+  -- a part that is returned is the same bytes at the same place; its ghost name, which is new for each call and no part of the machine's value, is not
+  -- promised
+  pub part : (first second : RefT (List ℕ)) (contents : List ℕ) (place : ℕ × ℕ) → (now first ≡ contents) × (first .ptr ≡ place)
+      → (now second ≡ contents) × (second .ptr ≡ place) → (now first ≡ now second) × (first .ptr ≡ second .ptr)
   -- an answer in one number tells its number, and its place or length where that is below 2^32
   pub number : (n low : ℕ) → answer n low / 4294967296 ≡ n
   pub low : (n low : ℕ) → low < 4294967296 → answer n low % 4294967296 ≡ low
