@@ -10,3 +10,4 @@ pub mod Marked
 pub mod Sample
 pub mod Tightening
 pub mod Tallying
+pub mod Witness
