@@ -31,7 +31,7 @@ fn integers_in(part: &[i32], most: u32) -> Judged
     while i < part.len() {
         let t = vectors::judge_one(3, most, ended, words::bits(part[i]));
         let Turn::On(e) = t else {
-            return vectors::stop_at(t, 0);
+            return Judged::Refused(vectors::turn_refusal(t, 0));
         };
         ended = e;
         i += 1;
@@ -108,7 +108,7 @@ fn floats_in(part: &[u32]) -> Judged
     while i < part.len() {
         let t = vectors::judge_one(5, 0xFFFFFFFF, ended, part[i]);
         let Turn::On(e) = t else {
-            return vectors::stop_at(t, 0);
+            return Judged::Refused(vectors::turn_refusal(t, 0));
         };
         ended = e;
         i += 1;

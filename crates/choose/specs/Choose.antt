@@ -1,12 +1,12 @@
 -- Choosing: the answer, and the lent buffer afterwards. Reading's refusals come first, then 14 for a choice that isn't ascending or in
 -- range, then 13 for a buffer too short. Rests on reading and on the chosen record.
 use Prim.Native.Nat.{ℕ, _≤_}
-use mathlib.Core.List.{List}
+use mathlib.Core.List.{List, [], _∷_}
 use lib.Dec.{ltb}
 use lib.ListN.{length}
 use lib.Seq.{sets}
 use Rattle.words.specs.Pick.{pick}
-use Rattle.values.specs.Answers.{refusal}
+use Rattle.values.specs.Answers.{refusal, Says, refuses, holds}
 use Rattle.facts.specs.declared.Facts.{Facts}
 use Rattle.record.specs.Reading.{reading}
 use Rattle.record.specs.declared.Reading.{Reading}
@@ -15,6 +15,11 @@ use Rattle.choice.specs.Choice.{ascending}
 use Rattle.choose.specs.Chosen.{chosenRecord}
 use Rattle.choose.specs.declared.Choosing.{Choosing}
 use Rattle.choose.specs.declared.Choosing.the-variants.{Chosen, Refused}
+
+-- 01's number and values for each case: the refusal, or the chosen length
+abbrev pub choosingSays : Choosing → Says
+choosingSays (Refused r) = refuses r
+choosingSays (Chosen n) = holds (n ∷ [])
 
 -- a record that would be written into so much room: its length, or 13
 abbrev pub chosenLength : ℕ → List ℕ → Choosing

@@ -79,8 +79,3 @@ blockOf kind t s = drop (blockFrom kind t) (take (blockEnd kind t) s)
 abbrev pub orNone : Found → Found
 orNone (Refused r) = Refused (refusal 16 0)
 orNone (Field key t n place stop) = Field key t n place stop
-
--- the refusal of the steps to a field
-abbrev pub stepRefused : Step → Found
-stepRefused (NoStep r) = Refused r
-stepRefused (At q) = Refused (refusal 0 0)

@@ -1,10 +1,10 @@
 -- A field at the front of a list: a value alone, or a key and then its value. Whatever walks a record's fields, reads them so. Rests on values.
 use Prim.Native.Nat.{ℕ, _-_, _<_, _≤_}
-use mathlib.Core.List.{List}
+use mathlib.Core.List.{List, [], _∷_}
 use lib.ListN.{drop}
 use Rattle.types.specs.declared.Use.{Use}
 use Rattle.types.specs.declared.Use.the-variants.{Id as IdUse, Allele as AlleleUse, Filter as FilterUse, Info as InfoUse, Format as FormatUse}
-use Rattle.values.specs.Answers.{refusal}
+use Rattle.values.specs.Answers.{Says, refuses, holds}
 use Rattle.values.specs.Values.{integer, present}
 use Rattle.values.specs.declared.Integer.{Integer}
 use Rattle.values.specs.declared.Integer.the-variants.{One, Refused as NoInteger}
@@ -14,6 +14,11 @@ use Rattle.fetch.specs.declared.Kind.{Kind}
 use Rattle.fetch.specs.declared.Kind.the-variants.{Id, Allele, Filter, Info, Format}
 use Rattle.fetch.specs.declared.Found.{Found}
 use Rattle.fetch.specs.declared.Found.the-variants.{Field, Refused}
+
+-- 01's number and values for each case: the refusal; or the key, the type and the length, the place of the first element and the place after the last
+abbrev pub foundSays : Found → Says
+foundSays (Refused r) = refuses r
+foundSays (Field key t n place stop) = holds (key ∷ t ∷ n ∷ place ∷ stop ∷ [])
 
 -- a value with its key
 abbrev pub valueField : ℕ → Value → Found
@@ -39,11 +44,6 @@ fieldAt Allele people at l = alone AlleleUse at l
 fieldAt Filter people at l = alone FilterUse at l
 fieldAt Info people at l = paired 1 InfoUse at l
 fieldAt Format people at l = paired people FormatUse at l
-
--- the refusal of a key
-abbrev pub keyNotFound : Integer → Found
-keyNotFound (NoInteger r) = Refused r
-keyNotFound (One key next) = Refused (refusal 0 0)
 
 -- a field lies after a place and before an end
 abbrev pub foundInside : ℕ → ℕ → Found → Type 0

@@ -3,10 +3,10 @@
 ghost use mathlib.Core.Path.{_≡_};
 ghost use Prim.Native.Nat.{_+_};
 ghost use lib.ListN.{length, take, drop};
-ghost use Rattle.values.specs.Answers.{refusal};
+ghost use Rattle.values.specs.Answers.{refusal, refusalIn};
 ghost use Rattle.site.specs.Steps.{stepInside};
-ghost use Rattle.fetch.specs.Fields.{valueField, keyNotFound, alone, paired, fieldAt, foundInside};
-ghost use Rattle.fetch.specs.Engine.{stepRefused, fieldStep, past, toFilter, toInfo, toFirst, toField, fieldIn, isFormat, orNone};
+ghost use Rattle.fetch.specs.Fields.{foundSays, valueField, alone, paired, fieldAt, foundInside};
+ghost use Rattle.fetch.specs.Engine.{fieldStep, past, toFilter, toInfo, toFirst, toField, fieldIn, isFormat, orNone};
 ghost use Rattle.fetch.specs.Account.{countOf};
 ghost use Rattle.fetch.specs.Fetch.{fieldOf, found, partOf, startOf, fetched, fetchedAt};
 ghost use Rattle.fetch.specs.declared.Found.the-variants.{Refused as NoField};
@@ -62,29 +62,22 @@ fn value_field(key: u32, v: Value) -> Found
     }
 }
 
-// The refusal of a key.
-fn key_not_found(k: Integer) -> Found
-    ensures { λ r. ⌜ r ≡ keyNotFound k ⌝ }
+// The refusal that a field's answer says; number 0 where it says none.
+pub fn found_refusal(f: Found) -> Refusal
+    ensures { λ r. ⌜ r ≡ refusalIn (foundSays f) ⌝ }
 {
-    match k {
-        Integer::One { bits: _, next: _ } => Found::Refused(Refusal {
+    match f {
+        Found::Field {
+            key: _,
+            code: _,
+            len: _,
+            place: _,
+            stop: _,
+        } => Refusal {
             number: 0,
             place: 0,
-        }),
-        Integer::Refused(r) => Found::Refused(r),
-    }
-}
-
-// The refusal of the steps to a field.
-fn step_refused(p: Step) -> Found
-    ensures { λ r. ⌜ r ≡ stepRefused p ⌝ }
-{
-    match p {
-        Step::At(_) => Found::Refused(Refusal {
-            number: 0,
-            place: 0,
-        }),
-        Step::Refused(r) => Found::Refused(r),
+        },
+        Found::Refused(r) => r,
     }
 }
 
@@ -119,7 +112,7 @@ fn key_and_value(block: &[u8], at: usize, role: Use, vectors: u32) -> Found
 {
     let k = values::integer_at(block, at);
     let Integer::One { bits, next } = k else {
-        return key_not_found(k);
+        return Found::Refused(values::integer_refusal(k));
     };
     value_field(bits, values::value_at(block, next, role, vectors))
 }
@@ -213,7 +206,7 @@ fn field_in(block: &[u8], from: usize, kind: Kind, people: u32, alleles: u32, nu
 {
     let p = to_field(block, from, kind, people, alleles, number);
     let Step::At(at) = p else {
-        return step_refused(p);
+        return Found::Refused(site::step_refusal(p));
     };
     field_at(block, at, kind, people)
 }

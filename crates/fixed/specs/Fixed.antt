@@ -1,12 +1,11 @@
 -- The front of a record: the two lengths, and then the fixed fields in the order of their bytes. Rests on the layout.
 use Prim.Native.Nat.{ℕ, _+_, _≤_}
-use mathlib.Core.List.{List}
+use mathlib.Core.List.{List, [], _∷_}
 use lib.Dec.{ltb, eqb}
 use lib.ListN.{length}
 use Rattle.words.specs.Pick.{pick}
 use Rattle.words.specs.Words.{outside}
-use Rattle.values.specs.Answers.{refusal}
-use Rattle.values.specs.declared.Refusal.{Refusal}
+use Rattle.values.specs.Answers.{refusal, Says, refuses, holds}
 use Rattle.fixed.specs.Layout.{indivAt, chromAt, posAt, rlenAt, countsAt, peopleAt, qualAt, idAt, allelesIn, infosIn, formatsIn, peopleIn, mostBytes, field, posWrong, rlenWrong, countsWrong, peopleWrong, qualWrong}
 use Rattle.facts.specs.declared.Facts.{Facts}
 use Rattle.fixed.specs.declared.Site.{Site}
@@ -23,9 +22,17 @@ noBlocks n p = NoBlocks (refusal n p)
 abbrev pub noSite : ℕ → ℕ → Fixed
 noSite n p = NoSite (refusal n p)
 
-abbrev pub blocksRefusal : Blocks → Refusal
-blocksRefusal (NoBlocks r) = r
-blocksRefusal (Lent border whole) = refusal 0 0
+abbrev pub blocksSays : Blocks → Says
+blocksSays (NoBlocks r) = refuses r
+blocksSays (Lent border whole) = holds (border ∷ whole ∷ [])
+
+abbrev pub siteValues : Site → List ℕ
+siteValues t =
+    t .length ∷ t .border ∷ t .chrom ∷ t .pos ∷ t .rlen ∷ t .qual ∷ t .alleles ∷ t .infos ∷ t .formats ∷ t .people ∷ []
+
+abbrev pub fixedSays : Fixed → Says
+fixedSays (NoSite r) = refuses r
+fixedSays (Front t) = holds (siteValues t)
 
 -- under 8 bytes 1; over the most 2; fewer bytes than the record's length 1; a site block that ends before ID 3
 unfoldable pub blocks : List ℕ → Blocks

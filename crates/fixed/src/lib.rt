@@ -2,8 +2,9 @@
 // Rests on words for the numbers and on values for the form of a refusal.
 ghost use mathlib.Core.Path.{_≡_};
 ghost use lib.ListN.{length};
+ghost use Rattle.values.specs.Answers.{refusalIn};
 ghost use Rattle.fixed.specs.Layout.{field, posWrong, peopleWrong, qualWrong};
-ghost use Rattle.fixed.specs.Fixed.{blocks, wrongAt, siteAt, fixed, blocksRefusal, blocksInside, fixedInside};
+ghost use Rattle.fixed.specs.Fixed.{blocksSays, fixedSays, blocks, wrongAt, siteAt, fixed, blocksInside, fixedInside};
 use facts::Facts;
 use values::Refusal;
 
@@ -104,9 +105,9 @@ pub fn blocks_of(s: &[u8]) -> Blocks
     Blocks::Lent { border, length }
 }
 
-// The refusal in the blocks' answer; number 0 where there is none.
-fn blocks_refusal(b: Blocks) -> Refusal
-    ensures { λ r. ⌜ r ≡ blocksRefusal b ⌝ }
+// The refusal that the blocks' answer says; number 0 where it says none.
+pub fn blocks_refusal(b: Blocks) -> Refusal
+    ensures { λ r. ⌜ r ≡ refusalIn (blocksSays b) ⌝ }
 {
     match b {
         Blocks::Lent {
@@ -117,6 +118,19 @@ fn blocks_refusal(b: Blocks) -> Refusal
             place: 0,
         },
         Blocks::Refused(r) => r,
+    }
+}
+
+// The refusal that the answer of a record's front says; number 0 where it says none.
+pub fn fixed_refusal(f: Fixed) -> Refusal
+    ensures { λ r. ⌜ r ≡ refusalIn (fixedSays f) ⌝ }
+{
+    match f {
+        Fixed::Site(_) => Refusal {
+            number: 0,
+            place: 0,
+        },
+        Fixed::Refused(r) => r,
     }
 }
 

@@ -8,7 +8,7 @@ use Rattle.words.specs.Lists.{among}
 use Rattle.words.specs.Pick.{pick}
 use Rattle.types.specs.declared.Use.{Use}
 use Rattle.types.specs.declared.Use.the-variants.{Format, Gt as GtUse}
-use Rattle.values.specs.Answers.{refusal}
+use Rattle.values.specs.Answers.{refusal, Says, refuses, holds}
 use Rattle.values.specs.Values.{keyed}
 use Rattle.values.specs.declared.Integer.{Integer}
 use Rattle.values.specs.declared.Integer.the-variants.{One, Refused as NoInteger}
@@ -30,21 +30,19 @@ gtAt t n first = record { code = t; len = n; first = first }
 abbrev pub noGt : Gt
 noGt = gtAt 0 0 0
 
+abbrev pub gtValues : Gt → List ℕ
+gtValues g = g .code ∷ g .len ∷ g .first ∷ []
+
+abbrev pub genotypesSays : Genotypes → Says
+genotypesSays (Refused r) = refuses r
+genotypesSays (Sound g) = holds (gtValues g)
+
 -- the key that is GT's makes its value GT
 unfoldable pub roleOf : ℕ → ℕ → Use
 roleOf key gt = pick (eqb key gt) GtUse Format
 
 unfoldable pub gtNow : ℕ → ℕ → Gt → Gt → Gt
 gtNow key gt field known = pick (eqb key gt) field known
-
--- the refusal of a key, or of a value
-abbrev pub keyRefused : Integer → Genotypes
-keyRefused (NoInteger r) = Refused r
-keyRefused (One key next) = Sound noGt
-
-abbrev pub valueRefused : Value → Genotypes
-valueRefused (NoValue r) = Refused r
-valueRefused (Present t n first stop) = Sound noGt
 
 -- what follows a field: where it came to, its key, and GT
 abbrev pub Rest : Type 0

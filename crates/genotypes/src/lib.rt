@@ -5,7 +5,8 @@ ghost use Prim.Native.Nat.{_≤_};
 ghost use lib.ListN.{drop, length, take};
 ghost use mathlib.Core.List.{[]};
 ghost use Rattle.words.specs.Lists.{among};
-ghost use Rattle.genotypes.specs.Formats.{roleOf, gtNow, noGt, keyRefused, valueRefused, formats};
+ghost use Rattle.values.specs.Answers.{refusalIn};
+ghost use Rattle.genotypes.specs.Formats.{genotypesSays, roleOf, gtNow, noGt, formats};
 use facts::Facts;
 use types::Use;
 use values::Integer;
@@ -25,36 +26,16 @@ pub enum Genotypes {
     Refused(Refusal),
 }
 
-// The refusal of a key.
-fn key_refused(k: Integer) -> Genotypes
-    ensures { λ r. ⌜ r ≡ keyRefused k ⌝ }
+// The refusal that the answer of a genotype block says; number 0 where it says none.
+pub fn genotypes_refusal(g: Genotypes) -> Refusal
+    ensures { λ r. ⌜ r ≡ refusalIn (genotypesSays g) ⌝ }
 {
-    match k {
-        Integer::One { bits: _, next: _ } => Genotypes::Sound(Gt {
-            code: 0,
-            len: 0,
-            first: 0,
-        }),
-        Integer::Refused(r) => Genotypes::Refused(r),
-    }
-}
-
-// The refusal of a value.
-fn value_refused(v: Value) -> Genotypes
-    ensures { λ r. ⌜ r ≡ valueRefused v ⌝ }
-{
-    match v {
-        Value::Present {
-            code: _,
-            len: _,
-            first: _,
-            stop: _,
-        } => Genotypes::Sound(Gt {
-            code: 0,
-            len: 0,
-            first: 0,
-        }),
-        Value::Refused(r) => Genotypes::Refused(r),
+    match g {
+        Genotypes::Sound(_) => Refusal {
+            number: 0,
+            place: 0,
+        },
+        Genotypes::Refused(r) => r,
     }
 }
 
@@ -147,7 +128,7 @@ pub fn genotype_block(block: &[u8], from: usize, facts: Facts, alleles: u32, cou
     while 0 < left {
         let k = values::key_at(block, at, strings);
         let Integer::One { bits, next } = k else {
-            return key_refused(k);
+            return Genotypes::Refused(values::integer_refusal(k));
         };
         if is_repeated(&keys[..seen], bits) {
             return Genotypes::Refused(Refusal {
@@ -163,7 +144,7 @@ pub fn genotype_block(block: &[u8], from: usize, facts: Facts, alleles: u32, cou
             stop,
         } = v
         else {
-            return value_refused(v);
+            return Genotypes::Refused(values::value_refusal(v));
         };
         gt = gt_after(bits, offset, Gt { code, len, first }, gt);
         keys[seen] = bits;

@@ -28,7 +28,7 @@ use Rattle.build.specs.Turns.{freshState}
 use Rattle.build.specs.declared.Stage.{Stage}
 use Rattle.build.specs.declared.Stage.the-variants.{Fresh, Begun, Named, Alleles, Filtered, Infos, Formats, Ended}
 use Rattle.build.specs.declared.Builder.{Builder}
-use Rattle.c_answers.specs.Told.{answer, siteNumbers, siteTold, emptySite}
+use Rattle.c_answers.specs.Told.{answer, refusedAnswer, siteNumbers, siteTold, emptySite}
 use Rattle.c_state.specs.Kept.{stageOf, stateNumbers, stateOf}
 use Rattle.laws.specs.Answers.{Ranges, SiteRanges, Answers}
 
@@ -101,6 +101,7 @@ unfolding siteTold
 few-none ns s kind number h = rw (lt-ltb _ _ h) (empty-none kind number s)
 
 pub promises-fix : Answers
+unfolding refusedAnswer
 promises-fix =
     record {
       one = λ promised first second p q. p ∙ sym q;
@@ -109,6 +110,12 @@ promises-fix =
       part = λ first second contents place p q. (p .0 ∙ sym (q .0), p .1 ∙ sym (q .1));
       number = number-told;
       low = low-told;
+      refusal-said = λ r. refl;
+      end-said = λ room. refl;
+      reading-said = λ t g. refl;
+      field-said = λ key t n place stop. refl;
+      pair-said = λ key t n place next. refl;
+      tally-said = λ t k. refl;
       fresh = fresh-ranges;
       state = state-back;
       site = site-back;

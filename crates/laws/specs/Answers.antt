@@ -8,18 +8,25 @@ use mathlib.Core.List.{List, _++_}
 use lib.ListN.{length}
 use denote.Ref.{RefT, now}
 use Rattle.words.specs.Words.{Bytes}
-use Rattle.values.specs.Answers.{refusal}
+use Rattle.values.specs.Answers.{refusal, refuses, refusalIn}
+use Rattle.values.specs.declared.Refusal.{Refusal}
 use Rattle.facts.specs.declared.Facts.{Facts}
 use Rattle.fixed.specs.declared.Site.{Site}
 use Rattle.genotypes.specs.declared.Gt.{Gt}
-use Rattle.record.specs.Reading.{reading}
+use Rattle.record.specs.Reading.{readingSays, reading}
 use Rattle.record.specs.declared.Reading.the-variants.{Accepted}
+use Rattle.fetch.specs.Fields.{foundSays}
 use Rattle.fetch.specs.Fetch.{fieldOf, found}
 use Rattle.fetch.specs.declared.Kind.{Kind}
-use Rattle.fetch.specs.declared.Found.the-variants.{Refused as NoField}
+use Rattle.fetch.specs.declared.Found.the-variants.{Field, Refused as NoField}
+use Rattle.walker.specs.Walk.{pairSays}
+use Rattle.walker.specs.declared.Pair.the-variants.{Found as Whole, End}
+use Rattle.calls.specs.declared.Calls.{Calls}
+use Rattle.tally.specs.Tally.{countingSays}
+use Rattle.tally.specs.declared.Counting.the-variants.{Counted}
 use Rattle.build.specs.Turns.{freshState}
 use Rattle.build.specs.declared.Builder.{Builder}
-use Rattle.c_answers.specs.Told.{answer, siteNumbers, siteTold}
+use Rattle.c_answers.specs.Told.{answer, refusedAnswer, pairAnswer, siteNumbers, fieldNumbers, tallyNumbers, siteTold}
 use Rattle.c_state.specs.Kept.{stateNumbers, stateOf}
 
 -- the fields of a builder are in their ranges, as they are in every state that code holds
@@ -55,6 +62,13 @@ pub record Answers : Type 1 where
   -- an answer in one number tells its number, and its place or length where that is below 2^32
   pub number : (n low : ℕ) → answer n low / 4294967296 ≡ n
   pub low : (n low : ℕ) → low < 4294967296 → answer n low % 4294967296 ≡ low
+  -- what is told in numbers is what the answer says: of a refusal its number and place, else the values that it holds; at a walk's end 16
+  pub refusal-said : (r : Refusal) → refusedAnswer r ≡ answer (refuses r .number) (refuses r .place)
+  pub end-said : (room : ℕ) → pairAnswer room End ≡ refusedAnswer (refusalIn (pairSays End))
+  pub reading-said : (t : Site) (g : Gt) → siteNumbers t g ≡ readingSays (Accepted t g) .values
+  pub field-said : (key t n place stop : ℕ) → fieldNumbers key t n place stop ≡ foundSays (Field key t n place stop) .values
+  pub pair-said : (key t n place next : ℕ) → fieldNumbers key t n place next ≡ pairSays (Whole key t n place next) .values
+  pub tally-said : (t : Site) (k : Calls) → tallyNumbers t k ≡ countingSays k (Counted t) .values
   -- the numbers of a state hold that state, whatever stands behind them; a fresh one is in its ranges
   pub fresh : Ranges freshState
   pub state : (st : Builder) (rest : List ℕ) → Ranges st → stateOf (stateNumbers st ++ rest) ≡ st

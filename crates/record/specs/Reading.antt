@@ -1,12 +1,11 @@
 -- Reading a record: its front, then its site block, then its genotype block, each to its last byte.
 -- Rests on the definitions of fixed, site and genotypes.
 use Prim.Native.Nat.{ℕ, _≤_}
-use mathlib.Core.List.{List, []}
+use mathlib.Core.List.{List, [], _++_}
 use lib.ListN.{take, drop}
-use Rattle.values.specs.Answers.{refusal}
-use Rattle.values.specs.declared.Refusal.{Refusal}
+use Rattle.values.specs.Answers.{Says, refuses, holds}
 use Rattle.fixed.specs.Layout.{idAt, mostBytes}
-use Rattle.fixed.specs.Fixed.{fixed}
+use Rattle.fixed.specs.Fixed.{siteValues, fixed}
 use Rattle.facts.specs.declared.Facts.{Facts}
 use Rattle.fixed.specs.declared.Site.{Site}
 use Rattle.fixed.specs.declared.Fixed.{Fixed}
@@ -14,24 +13,16 @@ use Rattle.fixed.specs.declared.Fixed.the-variants.{Site as Front, Refused as N
 use Rattle.site.specs.Site.{site}
 use Rattle.site.specs.declared.Step.{Step}
 use Rattle.site.specs.declared.Step.the-variants.{At, Refused as NoStep}
-use Rattle.genotypes.specs.Formats.{formats, noGt}
+use Rattle.genotypes.specs.Formats.{noGt, gtValues, formats}
 use Rattle.genotypes.specs.declared.Genotypes.{Genotypes}
 use Rattle.genotypes.specs.declared.Genotypes.the-variants.{Sound, Refused as NoGenotypes}
 use Rattle.record.specs.declared.Reading.{Reading}
 use Rattle.record.specs.declared.Reading.the-variants.{Accepted, Refused}
 
--- 01's number and place of a refusal in each part's answer; number 0 says that there is none
-abbrev pub fixedRefused : Fixed → Refusal
-fixedRefused (NoSite r) = r
-fixedRefused (Front t) = refusal 0 0
-
-abbrev pub siteRefused : Step → Refusal
-siteRefused (NoStep r) = r
-siteRefused (At q) = refusal 0 0
-
-abbrev pub genotypesRefused : Genotypes → Refusal
-genotypesRefused (NoGenotypes r) = r
-genotypesRefused (Sound g) = refusal 0 0
+-- 01's number and values for each case: the refusal; or the length, the fixed fields and the counts, and where GT stands
+abbrev pub readingSays : Reading → Says
+readingSays (Refused r) = refuses r
+readingSays (Accepted t g) = holds (siteValues t ++ gtValues g)
 
 -- the site block: the record up to the border, from ID on
 unfoldable pub siteOf : Facts → Site → List ℕ → Step
@@ -57,11 +48,6 @@ afterFixed f s (Front t) = afterSite f t s (siteOf f t s)
 -- the record at the front of a list, under the header's facts
 unfoldable pub reading : Facts → List ℕ → Reading
 reading f s = afterFixed f s (fixed f s)
-
--- the refusal in a reading
-abbrev pub readingRefusal : Reading → Refusal
-readingRefusal (Refused r) = r
-readingRefusal (Accepted t g) = refusal 0 0
 
 -- an accepted record lies in the slice
 abbrev pub readingInside : ℕ → Reading → Type 0

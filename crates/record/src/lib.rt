@@ -2,7 +2,8 @@
 // Rests on the front of a record (fixed), its site block (site) and its genotype block (genotypes).
 ghost use mathlib.Core.Path.{_≡_};
 ghost use lib.ListN.{length};
-ghost use Rattle.record.specs.Reading.{reading, fixedRefused, siteRefused, genotypesRefused, readingRefusal, readingInside};
+ghost use Rattle.values.specs.Answers.{refusalIn};
+ghost use Rattle.record.specs.Reading.{readingSays, reading, readingInside};
 use facts::Facts;
 use fixed::Fixed;
 use fixed::Site;
@@ -17,42 +18,16 @@ pub enum Reading {
     Refused(Refusal),
 }
 
-// The refusal of the front of a record.
-fn fixed_refused(f: Fixed) -> Refusal
-    ensures { λ r. ⌜ r ≡ fixedRefused f ⌝ }
+// The refusal that a reading says; number 0 where it says none.
+pub fn reading_refusal(r: Reading) -> Refusal
+    ensures { λ q. ⌜ q ≡ refusalIn (readingSays r) ⌝ }
 {
-    match f {
-        Fixed::Site(_) => Refusal {
+    match r {
+        Reading::Accepted { site: _, gt: _ } => Refusal {
             number: 0,
             place: 0,
         },
-        Fixed::Refused(r) => r,
-    }
-}
-
-// The refusal of the site block.
-fn site_refused(p: Step) -> Refusal
-    ensures { λ r. ⌜ r ≡ siteRefused p ⌝ }
-{
-    match p {
-        Step::At(_) => Refusal {
-            number: 0,
-            place: 0,
-        },
-        Step::Refused(r) => r,
-    }
-}
-
-// The refusal of the genotype block.
-fn genotypes_refused(g: Genotypes) -> Refusal
-    ensures { λ r. ⌜ r ≡ genotypesRefused g ⌝ }
-{
-    match g {
-        Genotypes::Sound(_) => Refusal {
-            number: 0,
-            place: 0,
-        },
-        Genotypes::Refused(r) => r,
+        Reading::Refused(q) => q,
     }
 }
 
@@ -64,7 +39,7 @@ pub fn read(s: &[u8], facts: Facts) -> Reading
 {
     let f = fixed::fixed_fields(s, facts);
     let Fixed::Site(site) = f else {
-        return Reading::Refused(fixed_refused(f));
+        return Reading::Refused(fixed::fixed_refusal(f));
     };
     let border = site.border;
     let length = site.length;
@@ -72,24 +47,11 @@ pub fn read(s: &[u8], facts: Facts) -> Reading
     let infos = site.infos as u32;
     let p = site::site_block(&s[..border], fixed::ID, facts.strings, alleles, infos);
     let Step::At(_) = p else {
-        return Reading::Refused(site_refused(p));
+        return Reading::Refused(site::step_refusal(p));
     };
     let g = genotypes::genotype_block(&s[..length], border, facts, alleles, site.formats);
     let Genotypes::Sound(gt) = g else {
-        return Reading::Refused(genotypes_refused(g));
+        return Reading::Refused(genotypes::genotypes_refusal(g));
     };
     Reading::Accepted { site, gt }
-}
-
-// The refusal of a reading; number 0 where there is none.
-pub fn reading_refusal(r: Reading) -> Refusal
-    ensures { λ q. ⌜ q ≡ readingRefusal r ⌝ }
-{
-    match r {
-        Reading::Accepted { site: _, gt: _ } => Refusal {
-            number: 0,
-            place: 0,
-        },
-        Reading::Refused(q) => q,
-    }
 }

@@ -2,9 +2,7 @@
 use Prim.Native.Nat.{ℕ, zero, suc, _+_, _-_, _≤_, max}
 use mathlib.Core.List.{List, [], _∷_}
 use lib.ListN.{drop}
-use Rattle.values.specs.Answers.{refusal}
-use Rattle.values.specs.declared.Integer.{Integer}
-use Rattle.values.specs.declared.Integer.the-variants.{One, Refused as NoInteger}
+use Rattle.values.specs.Answers.{refusal, Says, refuses, holds}
 use Rattle.values.specs.declared.Value.{Value}
 use Rattle.values.specs.declared.Value.the-variants.{Present, Refused as NoValue}
 use Rattle.vectors.specs.declared.Judged.{Judged}
@@ -15,6 +13,10 @@ use Rattle.site.specs.declared.Step.the-variants.{At, Refused}
 -- 01's number and values for each case: the place after, or the refusal's number and place
 abbrev pub noStep : ℕ → ℕ → Step
 noStep n p = Refused (refusal n p)
+
+abbrev pub stepSays : Step → Says
+stepSays (Refused r) = refuses r
+stepSays (At q) = holds (q ∷ [])
 
 -- a step, and then another from where it came to, on what is left of the list
 abbrev pub then : ℕ → List ℕ → Step → (ℕ → List ℕ → Step) → Step
@@ -30,11 +32,6 @@ times step (suc n) at l = then at l (step at l) (times step n)
 abbrev pub valueStep : Value → Step
 valueStep (NoValue r) = Refused r
 valueStep (Present t n first stop) = At stop
-
--- past a key
-abbrev pub keyStep : Integer → Step
-keyStep (NoInteger r) = Refused r
-keyStep (One key next) = At next
 
 -- past elements from `first` to `stop`, whose places count from `first`
 abbrev pub judgedStep : ℕ → ℕ → Judged → Step

@@ -3,8 +3,9 @@
 ghost use mathlib.Core.Path.{_≡_};
 ghost use Prim.Native.Nat.{_-_, _≤_};
 ghost use lib.ListN.{drop, length};
+ghost use Rattle.values.specs.Answers.{refusalIn};
 ghost use Rattle.vectors.specs.Vectors.{judgedInside};
-ghost use Rattle.site.specs.Steps.{stepInside, times, valueStep, keyStep, judgedStep};
+ghost use Rattle.site.specs.Steps.{stepSays, stepInside, times, valueStep, judgedStep};
 ghost use Rattle.site.specs.Alleles.{alleleBytes, allele};
 ghost use Rattle.site.specs.Filters.{filtered, filter};
 ghost use Rattle.site.specs.Site.{info, site};
@@ -18,6 +19,19 @@ use vectors::Judged;
 pub enum Step {
     At(usize),
     Refused(Refusal),
+}
+
+// The refusal that a step's answer says; number 0 where it says none.
+pub fn step_refusal(p: Step) -> Refusal
+    ensures { λ r. ⌜ r ≡ refusalIn (stepSays p) ⌝ }
+{
+    match p {
+        Step::At(_) => Refusal {
+            number: 0,
+            place: 0,
+        },
+        Step::Refused(r) => r,
+    }
 }
 
 // A value's answer as a step past it.
@@ -87,7 +101,7 @@ pub fn allele_at(block: &[u8], at: usize) -> Step
         stop,
     } = v
     else {
-        return past_value(v);
+        return Step::Refused(values::value_refusal(v));
     };
     if len == 0 {
         return Step::Refused(Refusal {
@@ -157,20 +171,10 @@ pub fn filter_at(block: &[u8], at: usize, strings: u32) -> Step
         stop,
     } = v
     else {
-        return past_value(v);
+        return Step::Refused(values::value_refusal(v));
     };
     let j = judge_filters(&block[first..stop], code, strings);
     past_elements(j, first, stop)
-}
-
-// A key's answer as a step past it.
-fn past_key(k: Integer) -> Step
-    ensures { λ r. ⌜ r ≡ keyStep k ⌝ }
-{
-    match k {
-        Integer::One { bits: _, next } => Step::At(next),
-        Integer::Refused(r) => Step::Refused(r),
-    }
 }
 
 // The INFO pair at a place: the place after it, or its refusal.
@@ -180,7 +184,7 @@ pub fn info_at(block: &[u8], at: usize, strings: u32) -> Step
 {
     let k = values::key_at(block, at, strings);
     let Integer::One { bits: _, next } = k else {
-        return past_key(k);
+        return Step::Refused(values::integer_refusal(k));
     };
     past_value(vectors::sound_value_at(block, next, Use::Info, 1, 0))
 }

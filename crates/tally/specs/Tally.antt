@@ -1,11 +1,11 @@
 -- The tally: of a record that is read, and of at most 64 alleles, the calls of its people. Rests on reading and on calls.
 use Prim.Native.Nat.{ℕ, _*_}
-use mathlib.Core.List.{List}
+use mathlib.Core.List.{List, _∷_}
 use lib.Dec.{ltb, eqb}
 use lib.ListN.{take, drop, replicate}
 use Rattle.words.specs.Pick.{pick}
 use Rattle.types.specs.Rows.{widthOf}
-use Rattle.values.specs.Answers.{refusal}
+use Rattle.values.specs.Answers.{refusal, Says, refuses, holds}
 use Rattle.values.specs.declared.Refusal.{Refusal}
 use Rattle.facts.specs.declared.Facts.{Facts}
 use Rattle.genotypes.specs.declared.Gt.{Gt}
@@ -14,6 +14,7 @@ use Rattle.record.specs.declared.Reading.{Reading}
 use Rattle.record.specs.declared.Reading.the-variants.{Accepted, Refused as Unread}
 use Rattle.calls.specs.Calls.{counted}
 use Rattle.calls.specs.declared.Calls.{Calls}
+use Rattle.tally.specs.declared.Counting.{Counting}
 use Rattle.tally.specs.declared.Counting.the-variants.{Counted, Refused}
 use Rattle.tally.specs.declared.Tallied.{Tallied}
 
@@ -27,7 +28,13 @@ callsOf g people s =
     pick (eqb (g .len) 0) (nobody people)
     (counted (g .code) (g .len) (take (people * g .len * widthOf (g .code)) (drop (g .first) s)))
 
--- 01's number and place, with every counter 0
+-- 01's number and values for each case, of a tally with these calls: the refusal; or alleles and people, people without a genotype, missing alleles, and
+-- the calls of each of 64 alleles
+abbrev pub countingSays : Calls → Counting → Says
+countingSays k (Refused r) = refuses r
+countingSays k (Counted t) = holds (t .alleles ∷ t .people ∷ k .without ∷ k .counts)
+
+-- a refusal, with every counter 0
 abbrev pub refusedTally : Refusal → Tallied
 refusedTally r = record { answer = Refused r; calls = nobody 0 }
 

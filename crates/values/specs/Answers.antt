@@ -1,5 +1,6 @@
 -- The answers of this crate in 01's terms: for each case of each enum its number and its values. Rests on nothing.
 use Prim.Native.Nat.{ℕ, _<_, _≤_}
+use mathlib.Core.List.{List, [], _∷_}
 use Rattle.values.specs.declared.Refusal.{Refusal}
 use Rattle.values.specs.declared.Integer.{Integer}
 use Rattle.values.specs.declared.Descriptor.{Descriptor}
@@ -34,14 +35,34 @@ noValue n p = NoValue (refusal n p)
 abbrev pub whole : ℕ → ℕ → ℕ → ℕ → Value
 whole t n first stop = Present t n first stop
 
--- the refusal in an answer; number 0 says that there is none
-abbrev pub integerRefusal : Integer → Refusal
-integerRefusal (NoInteger r) = r
-integerRefusal (One x next) = refusal 0 0
+-- an answer in 01's terms: the number of its refusal, 0 where there is none, and its place; and where it is none, the values that it holds
+pub record Says : Type 0 where
+  pub number : ℕ
+  pub place : ℕ
+  pub values : List ℕ
 
-abbrev pub descriptorRefusal : Descriptor → Refusal
-descriptorRefusal (NoDescriptor r) = r
-descriptorRefusal (Typed t n first) = refusal 0 0
+abbrev pub refuses : Refusal → Says
+refuses r = record { number = r .number; place = r .place; values = [] }
+
+abbrev pub holds : List ℕ → Says
+holds vs = record { number = 0; place = 0; values = vs }
+
+-- the refusal that an answer says
+abbrev pub refusalIn : Says → Refusal
+refusalIn a = refusal (a .number) (a .place)
+
+-- what each answer says: the integer's bits and the place after it; type, length and the place of the first element; and the place after the last
+abbrev pub integerSays : Integer → Says
+integerSays (NoInteger r) = refuses r
+integerSays (One x next) = holds (x ∷ next ∷ [])
+
+abbrev pub descriptorSays : Descriptor → Says
+descriptorSays (NoDescriptor r) = refuses r
+descriptorSays (Typed t n first) = holds (t ∷ n ∷ first ∷ [])
+
+abbrev pub valueSays : Value → Says
+valueSays (NoValue r) = refuses r
+valueSays (Present t n first stop) = holds (t ∷ n ∷ first ∷ stop ∷ [])
 
 -- an answer at a place moves on, and its places lie in the block, which has so many bytes
 abbrev pub integerInside : ℕ → ℕ → Integer → Type 0

@@ -4,7 +4,7 @@ ghost use mathlib.Core.Path.{_≡_};
 ghost use Prim.Native.Nat.{_+_, _*_, _≤_};
 ghost use lib.Dec.{leb};
 ghost use lib.ListN.{drop, length};
-ghost use Rattle.values.specs.Answers.{integerRefusal, descriptorRefusal, integerInside, descriptorInside, valueInside};
+ghost use Rattle.values.specs.Answers.{refusalIn, integerSays, descriptorSays, valueSays, integerInside, descriptorInside, valueInside};
 ghost use Rattle.values.specs.Values.{integer, trueLength, keyed, mayStand, described, present};
 use types::Use;
 
@@ -37,9 +37,9 @@ pub enum Value {
     Refused(Refusal),
 }
 
-// The refusal in an integer's answer; number 0 where there is none.
-fn integer_refusal(i: Integer) -> Refusal
-    ensures { λ r. ⌜ r ≡ integerRefusal i ⌝ }
+// The refusal that an integer's answer says; number 0 where it says none.
+pub fn integer_refusal(i: Integer) -> Refusal
+    ensures { λ r. ⌜ r ≡ refusalIn (integerSays i) ⌝ }
 {
     match i {
         Integer::One { bits: _, next: _ } => Refusal {
@@ -50,9 +50,9 @@ fn integer_refusal(i: Integer) -> Refusal
     }
 }
 
-// The refusal in a descriptor's answer; number 0 where there is none.
-fn descriptor_refusal(d: Descriptor) -> Refusal
-    ensures { λ r. ⌜ r ≡ descriptorRefusal d ⌝ }
+// The refusal that a descriptor's answer says; number 0 where it says none.
+pub fn descriptor_refusal(d: Descriptor) -> Refusal
+    ensures { λ r. ⌜ r ≡ refusalIn (descriptorSays d) ⌝ }
 {
     match d {
         Descriptor::Typed {
@@ -64,6 +64,24 @@ fn descriptor_refusal(d: Descriptor) -> Refusal
             place: 0,
         },
         Descriptor::Refused(r) => r,
+    }
+}
+
+// The refusal that a value's answer says; number 0 where it says none.
+pub fn value_refusal(v: Value) -> Refusal
+    ensures { λ r. ⌜ r ≡ refusalIn (valueSays v) ⌝ }
+{
+    match v {
+        Value::Present {
+            code: _,
+            len: _,
+            first: _,
+            stop: _,
+        } => Refusal {
+            number: 0,
+            place: 0,
+        },
+        Value::Refused(r) => r,
     }
 }
 

@@ -10,7 +10,7 @@ use Rattle.types.specs.Rows.{widthOf}
 use Rattle.types.specs.Elements.{kind, shown}
 use Rattle.types.specs.declared.Element.{Element}
 use Rattle.types.specs.declared.Element.the-variants.{Plain, Missing, End, Reserved}
-use Rattle.values.specs.Answers.{refusal}
+use Rattle.values.specs.Answers.{refusal, Says, refuses, holds}
 use Rattle.vectors.specs.declared.Judged.{Judged}
 use Rattle.vectors.specs.declared.Judged.the-variants.{Sound, Refused as Unsound}
 use Rattle.vectors.specs.declared.Turn.{Turn}
@@ -19,6 +19,15 @@ use Rattle.vectors.specs.declared.Turn.the-variants.{Bad, On}
 -- elements: all sound, or the number and the place of the first that is refused
 abbrev pub unsound : ℕ → ℕ → Judged
 unsound n p = Unsound (refusal n p)
+
+abbrev pub judgedSays : Judged → Says
+judgedSays (Unsound r) = refuses r
+judgedSays Sound = holds []
+
+-- an element at a place: refused there, or passed, with 1 where the vector has ended and 0 where it has not
+abbrev pub turnSays : ℕ → Turn → Says
+turnSays at (Bad n) = refuses (refusal n at)
+turnSays at (On ended) = holds (pick ended 1 0 ∷ [])
 
 -- the place of a refusal lies in a part of so many bytes
 abbrev pub judgedInside : ℕ → Judged → Type 0
@@ -51,10 +60,6 @@ elementTurn most ended Plain x = pick ended (Bad 9) (pick (ltb most x) (Bad 10) 
 abbrev pub follow : ℕ → Turn → (Bool → Judged) → Judged
 follow at (Bad n) rest = unsound n at
 follow at (On ended) rest = rest ended
-
-abbrev pub stopped : ℕ → Turn → Judged
-stopped at (Bad n) = unsound n at
-stopped at (On ended) = Sound
 
 -- the elements of one vector of type t and width w, given as numbers; `at` is the first one's place
 unfoldable pub vector : ℕ → ℕ → ℕ → ℕ → Bool → List ℕ → Judged

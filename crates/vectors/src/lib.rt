@@ -8,10 +8,10 @@ ghost use lib.ListN.{drop, length};
 ghost use Rattle.words.specs.Pick.{pick};
 ghost use Rattle.types.specs.Rows.{widthOf};
 ghost use Rattle.types.specs.Elements.{kind};
-ghost use Rattle.values.specs.Answers.{valueInside};
+ghost use Rattle.values.specs.Answers.{refusalIn, valueInside};
 ghost use Rattle.vectors.specs.Sound.{highest, codeMost, mostOf, sound};
 ghost use Rattle.vectors.specs.Engine.{passed, allPassed, AllOn};
-ghost use Rattle.vectors.specs.Vectors.{numbers, elementTurn, stopped, vector, vectors, judged, judgedInside};
+ghost use Rattle.vectors.specs.Vectors.{turnSays, numbers, elementTurn, vector, vectors, judged, judgedInside};
 use types::Element;
 use types::Use;
 use values::Refusal;
@@ -55,13 +55,16 @@ pub fn judge_one(code: u8, most: u32, ended: bool, raw: u32) -> Turn
     }
 }
 
-// A turn that was refused, at its place.
-pub fn stop_at(t: Turn, at: usize) -> Judged
-    ensures { λ r. ⌜ r ≡ stopped at t ⌝ }
+// The refusal that the turn of an element at a place says; number 0 where it says none.
+pub fn turn_refusal(t: Turn, at: usize) -> Refusal
+    ensures { λ r. ⌜ r ≡ refusalIn (turnSays at t) ⌝ }
 {
     match t {
-        Turn::Bad(number) => Judged::Refused(Refusal { number, place: at }),
-        Turn::On(_) => Judged::Sound,
+        Turn::Bad(number) => Refusal { number, place: at },
+        Turn::On(_) => Refusal {
+            number: 0,
+            place: 0,
+        },
     }
 }
 
@@ -78,7 +81,7 @@ fn vector_at(part: &[u8], code: u8, w: u8, most: u32, len: usize, from: usize) -
         let stop = at + w as usize;
         let t = judge_one(code, most, ended, words::word(&part[at..stop]));
         let Turn::On(e) = t else {
-            return stop_at(t, at);
+            return Judged::Refused(turn_refusal(t, at));
         };
         ended = e;
         at = stop;

@@ -108,9 +108,9 @@ found-at f s t g q n r h i a b p c =
     found-in f InfoKind n s t g h i ∙ rw (a, drop-on block idAt q b, p, drop-on block idAt r d)
 
 -- opening leads to where FILTER ends
-step-after : (border : ℕ) (f : Fetched) {q : ℕ} → fieldStep f ≡ At q → firstAfter border f ≡ First q
-step-after border (NoField r) h = cc
-step-after border (Field key t n place stop) h = let e = same h in rw e
+step-after : (f : Fetched) {q : ℕ} → fieldStep f ≡ At q → firstAfter f ≡ First q
+step-after (NoField r) h = cc
+step-after (Field key t n place stop) h = let e = same h in rw e
   where
     same : {x y : ℕ} → At x ≡ At y → x ≡ y
     same e = cc
@@ -123,7 +123,7 @@ opened-first f s t g h w =
     let there : fieldOf Filter 0 t s ≡ fieldAt Filter (f .people) (w .filters) (drop (w .filters - idAt) l) =
     rw h at (found-in f Filter 0 s t g h (omega arith)) ∙ rw (w .toFilters) in
     rw (h, there)
-    (step-after (t .border) (fieldAt Filter (f .people) (w .filters) (drop (w .filters - idAt) l))
+    (step-after (fieldAt Filter (f .people) (w .filters) (drop (w .filters - idAt) l))
     (judged-passed f t Filter (w .filters) (drop (w .filters - idAt) l) (w .infos) (w .filterJudged)))
 
 -- an accepted record's pairs: where they begin, that they are passed, and that nothing is over after the last

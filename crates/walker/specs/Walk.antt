@@ -1,11 +1,12 @@
 -- The INFO pair that stands at a place of a record, and a walker over the pairs. Rests on what a field is, and on fetching.
 use Prim.Native.Nat.{ℕ, zero, suc, _+_, _-_}
-use mathlib.Core.List.{List}
+use mathlib.Core.List.{List, [], _∷_}
 use lib.Dec.{ltb}
 use lib.ListN.{length, take, drop}
 use denote.Ref.{RefT, now}
 use Rattle.words.specs.Pick.{pick}
 use Rattle.words.specs.Words.{number}
+use Rattle.values.specs.Answers.{refusal, Says, refuses, holds}
 use Rattle.facts.specs.declared.Facts.{Facts}
 use Rattle.record.specs.Reading.{reading}
 use Rattle.record.specs.declared.Reading.{Reading}
@@ -20,6 +21,16 @@ use Rattle.walker.specs.declared.Pair.the-variants.{Found, End}
 use Rattle.walker.specs.declared.Opening.{Opening}
 use Rattle.walker.specs.declared.Opening.the-variants.{First, Refused}
 use Rattle.walker.specs.declared.Walker.{Walker}
+
+-- 01's number and values for each case: a pair's key, type, length, place and the place after it, and at the end, as where there is no field of that
+-- number, 16; opening's refusal, or the place of the first pair
+abbrev pub pairSays : Pair → Says
+pairSays (Found key t n place next) = holds (key ∷ t ∷ n ∷ place ∷ next ∷ [])
+pairSays End = refuses (refusal 16 0)
+
+abbrev pub openingSays : Opening → Says
+openingSays (Refused r) = refuses r
+openingSays (First at) = holds (at ∷ [])
 
 -- a field as the walker yields it; where none stands whole, the end
 abbrev pub asPair : Fetched → Pair
@@ -44,14 +55,14 @@ afterPair End at = at
 abbrev pub nextAt : List ℕ → ℕ → ℕ
 nextAt s at = afterPair (pairAt s at) at
 
--- opening: reading's refusals, or the place of the first pair, which is where FILTER ends
-abbrev pub firstAfter : ℕ → Fetched → Opening
-firstAfter border (NoField r) = First border
-firstAfter border (Field key t n place stop) = First stop
+-- opening: reading's refusals, or the place of the first pair, which is where FILTER ends; an accepted record has its FILTER
+abbrev pub firstAfter : Fetched → Opening
+firstAfter (NoField r) = Refused r
+firstAfter (Field key t n place stop) = First stop
 
 abbrev pub openedBy : List ℕ → Reading → Opening
 openedBy s (Unread r) = Refused r
-openedBy s (Accepted t g) = firstAfter (t .border) (fieldOf Filter 0 t s)
+openedBy s (Accepted t g) = firstAfter (fieldOf Filter 0 t s)
 
 unfoldable pub opened : Facts → List ℕ → Opening
 opened f s = openedBy s (reading f s)

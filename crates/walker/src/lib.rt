@@ -2,7 +2,7 @@
 // The functions over the struct are thin; the work is done by `pair_at` on the slice and a number. Rests on fetch, for a field at a place and for opening.
 ghost use mathlib.Core.Path.{_≡_};
 ghost use lib.ListN.{drop};
-ghost use Rattle.walker.specs.Walk.{asPair, pairAt, pairIn, afterPair, nextAt, firstAfter, opened, walker, movedOn, advanced};
+ghost use Rattle.walker.specs.Walk.{asPair, pairAt, pairIn, afterPair, nextAt, opened, walker, movedOn, advanced};
 use facts::Facts;
 use fetch::Found;
 use fetch::Kind;
@@ -98,22 +98,6 @@ pub fn next_at(s: &[u8], at: usize) -> usize
     after(pair_at(s, at), at)
 }
 
-// The place where FILTER ends; the end of the block where there is none.
-fn first_after(border: usize, f: Found) -> Opening
-    ensures { λ r. ⌜ r ≡ firstAfter border f ⌝ }
-{
-    match f {
-        Found::Field {
-            key: _,
-            code: _,
-            len: _,
-            place: _,
-            stop,
-        } => Opening::First(stop),
-        Found::Refused(_) => Opening::First(border),
-    }
-}
-
 // The place of the first INFO pair, where a walker over a record starts, or reading's refusal. `new` makes the walker of it.
 pub fn opening_of(s: &[u8], facts: Facts) -> Opening
     ensures { λ r. ⌜ r ≡ opened facts (now (s .entry)) ⌝ }
@@ -122,7 +106,18 @@ pub fn opening_of(s: &[u8], facts: Facts) -> Opening
     let Reading::Accepted { site, gt: _ } = r else {
         return Opening::Refused(record::reading_refusal(r));
     };
-    first_after(site.border, fetch::field_of(s, site, Kind::Filter, 0))
+    let f = fetch::field_of(s, site, Kind::Filter, 0);
+    let Found::Field {
+        key: _,
+        code: _,
+        len: _,
+        place: _,
+        stop,
+    } = f
+    else {
+        return Opening::Refused(fetch::found_refusal(f));
+    };
+    Opening::First(stop)
 }
 
 // The walker of a lent record that stands at a place.

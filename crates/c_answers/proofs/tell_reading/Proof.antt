@@ -1,6 +1,7 @@
 -- `c_answers::tell_reading` meets its contract.
 use mathlib.Core.Path.{_∙_, ap}
-use Rattle.record.specs.Reading.{readingRefusal}
+use Rattle.values.specs.Answers.{refusalIn}
+use Rattle.record.specs.Reading.{readingSays}
 use Rattle.c_answers.specs.Told.{refusedAnswer}
 use borrow.Author.Needs.{needs}
 use Rattle.c_answers.proofs.tell_reading.Statement.{statement}
@@ -26,7 +27,7 @@ refused-answer-requires c κs = search needs
 returns : tie.Need-returns
 returns c =
     let e = c .before .before .enum-told .given .1 in
-    (rw e (c .refused-answer .ensures ∙ ap refusedAnswer (c .before .reading-refusal .ensures ∙ ap readingRefusal e)), rw e)
+    (rw e (c .refused-answer .ensures ∙ ap refusedAnswer (c .before .reading-refusal .ensures ∙ ap (λ r. refusalIn (readingSays r)) e)), rw e)
 
 cast-t9 : tie.Need-cast-t9
 cast-t9 c = search needs

@@ -10,8 +10,8 @@ use Rattle.fetch.proofs.field_in.Tie as tie
 use Rattle.fetch.proofs.field_in.Reads as reads
 use Rattle.fetch.proofs.field_in.Lts as lts
 use Rattle.fetch.proofs.field_at.Reads as field-at-reads
-use Rattle.fetch.proofs.step_refused.Reads as step-refused-reads
 use Rattle.fetch.proofs.to_field.Reads as to-field-reads
+use Rattle.site.proofs.step_refusal.Reads as step-refusal-reads
 
 to-field-requires : tie.Need-to-field-requires
 to-field-requires c κs = search needs
@@ -22,12 +22,12 @@ enum-known-p c = search needs
 enum-told : tie.Need-enum-told
 enum-told c = search needs
 
-step-refused-requires : tie.Need-step-refused-requires
-step-refused-requires c κs = search needs
+step-refusal-requires : tie.Need-step-refusal-requires
+step-refusal-requires c κs = search needs
 
 returns : tie.Need-returns
 unfolding fieldIn
-returns c = (simp (← c .before .before .before .to-field .ensures .0, c .before .enum-told .given .1, c .step-refused .ensures), rw (c .step-refused .ensures, c .before .enum-told .given .1) tt)
+returns c = (simp (← c .before .before .before .to-field .ensures .0, c .before .enum-told .given .1, c .step-refusal .ensures), tt)
 
 field-at-requires : tie.Need-field-at-requires
 field-at-requires c κs = search needs
@@ -50,7 +50,7 @@ field-in-spec =
     to-field-requires
     enum-known-p
     enum-told
-    step-refused-requires
+    step-refusal-requires
     returns
     field-at-requires
     returns-2)

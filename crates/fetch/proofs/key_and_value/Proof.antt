@@ -9,9 +9,9 @@ use Rattle.fetch.proofs.key_and_value.Statement.{statement}
 use Rattle.fetch.proofs.key_and_value.Tie as tie
 use Rattle.fetch.proofs.key_and_value.Reads as reads
 use Rattle.fetch.proofs.key_and_value.Lts as lts
-use Rattle.fetch.proofs.key_not_found.Reads as key-not-found-reads
 use Rattle.fetch.proofs.value_field.Reads as value-field-reads
 use Rattle.values.proofs.integer_at.Reads as integer-at-reads
+use Rattle.values.proofs.integer_refusal.Reads as integer-refusal-reads
 use Rattle.values.proofs.value_at.Reads as value-at-reads
 
 integer-at-requires : tie.Need-integer-at-requires
@@ -23,12 +23,12 @@ enum-known-k c = search needs
 enum-told : tie.Need-enum-told
 enum-told c = search needs
 
-key-not-found-requires : tie.Need-key-not-found-requires
-key-not-found-requires c κs = search needs
+integer-refusal-requires : tie.Need-integer-refusal-requires
+integer-refusal-requires c κs = search needs
 
 returns : tie.Need-returns
 unfolding paired
-returns c = (simp (← c .before .before .before .integer-at .ensures .0, c .before .enum-told .given .1, c .key-not-found .ensures), rw (c .key-not-found .ensures, c .before .enum-told .given .1) tt)
+returns c = (simp (← c .before .before .before .integer-at .ensures .0, c .before .enum-told .given .1, c .integer-refusal .ensures), tt)
 
 value-at-requires : tie.Need-value-at-requires
 value-at-requires c κs = search needs
@@ -59,7 +59,7 @@ key-and-value-spec =
     integer-at-requires
     enum-known-k
     enum-told
-    key-not-found-requires
+    integer-refusal-requires
     returns
     value-at-requires
     value-field-requires

@@ -15,8 +15,9 @@ enum-known-b c = search needs
 returns : tie.Need-returns
 returns c = simp (c .enum-told .given .1)
 
+-- fill: 41bd30e9
 returns-2 : tie.Need-returns-2
-returns-2 c = search needs
+returns-2 c = simp (c .before .b .given .1)
 
 pub blocks-refusal-spec : {M : Type 1} → statement M
 blocks-refusal-spec = tie.close (tie.spec enum-told enum-known-b returns returns-2)

@@ -16,10 +16,10 @@ use Rattle.genotypes.proofs.genotype_block.Reads as reads
 use Rattle.genotypes.proofs.genotype_block.Lts as lts
 use Rattle.genotypes.proofs.gt_after.Reads as gt-after-reads
 use Rattle.genotypes.proofs.is_repeated.Reads as is-repeated-reads
-use Rattle.genotypes.proofs.key_refused.Reads as key-refused-reads
 use Rattle.genotypes.proofs.role_of.Reads as role-of-reads
-use Rattle.genotypes.proofs.value_refused.Reads as value-refused-reads
+use Rattle.values.proofs.integer_refusal.Reads as integer-refusal-reads
 use Rattle.values.proofs.key_at.Reads as key-at-reads
+use Rattle.values.proofs.value_refusal.Reads as value-refusal-reads
 use Rattle.vectors.proofs.sound_value_at.Reads as sound-value-at-reads
 
 abbrev Inv-loop : tie.InvT-loop
@@ -43,12 +43,12 @@ enum-known-k c = search needs
 enum-told : tie.Need-enum-told Inv-loop μ-loop
 enum-told c = search needs
 
-key-refused-requires : tie.Need-key-refused-requires Inv-loop μ-loop
-key-refused-requires c κs = search needs
+integer-refusal-requires : tie.Need-integer-refusal-requires Inv-loop μ-loop
+integer-refusal-requires c κs = search needs
 
 returns : tie.Need-returns Inv-loop μ-loop
 returns c =
-    rw (c .before .before .before .before .before .loop .inv .0, formats-turn _ _ _ _ _ _ _ _ _ (c .before .before .before .before .loop-test .taken), ← c .before .before .before .key-at .ensures .0, c .before .enum-told .given .1, c .key-refused .ensures, c .before .enum-told .given .1)
+    rw (c .before .before .before .before .before .loop .inv .0, formats-turn _ _ _ _ _ _ _ _ _ (c .before .before .before .before .loop-test .taken), ← c .before .before .before .key-at .ensures .0, c .before .enum-told .given .1, c .integer-refusal .ensures, c .before .enum-told .given .1)
 
 array-share-prefix-keys : tie.Need-array-share-prefix-keys Inv-loop μ-loop
 array-share-prefix-keys c = search needs
@@ -60,8 +60,8 @@ slice-aggregate-is-repeated c =
 is-repeated-requires : tie.Need-is-repeated-requires Inv-loop μ-loop
 is-repeated-requires c κs = search needs
 
-add-t26 : tie.Need-add-t26 Inv-loop μ-loop
-add-t26 c =
+add-t27 : tie.Need-add-t27 Inv-loop μ-loop
+add-t27 c =
     let i = rw (c .before .before .before .before .k .given .1) at (c .before .before .before .before .before .before .key-at .ensures .1) in
     omega (arith, i)
 
@@ -81,8 +81,8 @@ enum-known-v c = search needs
 enum-told-2 : tie.Need-enum-told-2 Inv-loop μ-loop
 enum-told-2 c = search needs
 
-value-refused-requires : tie.Need-value-refused-requires Inv-loop μ-loop
-value-refused-requires c κs = search needs
+value-refusal-requires : tie.Need-value-refusal-requires Inv-loop μ-loop
+value-refusal-requires c κs = search needs
 
 returns-3 : tie.Need-returns-3 Inv-loop μ-loop
 returns-3 c =
@@ -99,7 +99,7 @@ returns-3 c =
       ← c .before .before .before .before .role-of .ensures,
       ← c .before .before .before .sound-value-at .ensures .0,
       c .before .enum-told2 .given .1,
-      c .value-refused .ensures,
+      c .value-refusal .ensures,
     ))
 
 gt-after-requires : tie.Need-gt-after-requires Inv-loop μ-loop
@@ -159,18 +159,18 @@ genotype-block-spec =
     key-at-requires
     enum-known-k
     enum-told
-    key-refused-requires
+    integer-refusal-requires
     returns
     array-share-prefix-keys
     slice-aggregate-is-repeated
     is-repeated-requires
-    add-t26
+    add-t27
     returns-2
     role-of-requires
     sound-value-at-requires
     enum-known-v
     enum-told-2
-    value-refused-requires
+    value-refusal-requires
     returns-3
     gt-after-requires
     mul-keys

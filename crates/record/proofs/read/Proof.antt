@@ -10,9 +10,9 @@ use Rattle.record.proofs.read.Reads as reads
 use Rattle.record.proofs.read.Lts as lts
 use Rattle.fixed.proofs.fixed_fields.Reads as fixed-fields-reads
 use Rattle.genotypes.proofs.genotype_block.Reads as genotype-block-reads
-use Rattle.record.proofs.fixed_refused.Reads as fixed-refused-reads
-use Rattle.record.proofs.genotypes_refused.Reads as genotypes-refused-reads
-use Rattle.record.proofs.site_refused.Reads as site-refused-reads
+use Rattle.fixed.proofs.fixed_refusal.Reads as fixed-refusal-reads
+use Rattle.genotypes.proofs.genotypes_refusal.Reads as genotypes-refusal-reads
+use Rattle.site.proofs.step_refusal.Reads as step-refusal-reads
 use Rattle.site.proofs.site_block.Reads as site-block-reads
 
 fixed-fields-requires : tie.Need-fixed-fields-requires
@@ -24,14 +24,14 @@ enum-known-f c = search needs
 enum-told : tie.Need-enum-told
 enum-told c = search needs
 
-fixed-refused-requires : tie.Need-fixed-refused-requires
-fixed-refused-requires c κs = search needs
+fixed-refusal-requires : tie.Need-fixed-refusal-requires
+fixed-refusal-requires c κs = search needs
 
 -- fill: 4915afe4
 returns : tie.Need-returns
 unfolding reading siteOf genotypesOf
 returns c =
-    (simp (← c .before .before .before .fixed-fields .ensures .0, c .before .enum-told .given .1, c .fixed-refused .ensures), search needs)
+    (simp (← c .before .before .before .fixed-fields .ensures .0, c .before .enum-told .given .1, c .fixed-refusal .ensures), search needs)
 
 cast-alleles : tie.Need-cast-alleles
 cast-alleles c = search needs
@@ -53,8 +53,8 @@ enum-told-2 c = search needs
 enum-told-3 : tie.Need-enum-told-3
 enum-told-3 c = search needs
 
-site-refused-requires : tie.Need-site-refused-requires
-site-refused-requires c κs = search needs
+step-refusal-requires : tie.Need-step-refusal-requires
+step-refusal-requires c κs = search needs
 
 -- fill: 608bf447
 returns-2 : tie.Need-returns-2
@@ -65,7 +65,7 @@ returns-2 c = (
     c .before .before .before .before .before .before .before .before .f .given .1,
     ← c .before .before .before .site-block .ensures,
     c .before .enum-told3 .given .1,
-    c .site-refused .ensures,
+    c .step-refusal .ensures,
   ),
   search needs,
 )
@@ -84,8 +84,8 @@ enum-known-g c = search needs
 enum-told-4 : tie.Need-enum-told-4
 enum-told-4 c = search needs
 
-genotypes-refused-requires : tie.Need-genotypes-refused-requires
-genotypes-refused-requires c κs = search needs
+genotypes-refusal-requires : tie.Need-genotypes-refusal-requires
+genotypes-refusal-requires c κs = search needs
 
 -- fill: 44edf61f
 returns-3 : tie.Need-returns-3
@@ -98,7 +98,7 @@ returns-3 c = (
     c .before .before .before .before .before .enum-told2 .given .1,
     ← c .before .before .before .genotype-block .ensures,
     c .before .enum-told4 .given .1,
-    c .genotypes-refused .ensures,
+    c .genotypes-refusal .ensures,
   ),
   search needs,
 )
@@ -125,7 +125,7 @@ read-spec =
     fixed-fields-requires
     enum-known-f
     enum-told
-    fixed-refused-requires
+    fixed-refusal-requires
     returns
     cast-alleles
     cast-infos
@@ -133,12 +133,12 @@ read-spec =
     site-block-requires
     enum-told-2
     enum-told-3
-    site-refused-requires
+    step-refusal-requires
     returns-2
     slice-aggregate-genotype-block
     genotype-block-requires
     enum-known-g
     enum-told-4
-    genotypes-refused-requires
+    genotypes-refusal-requires
     returns-3
     returns-4)

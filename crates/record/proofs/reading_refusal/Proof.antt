@@ -15,8 +15,9 @@ enum-known-r c = search needs
 returns : tie.Need-returns
 returns c = simp (c .enum-told .given .1)
 
+-- fill: 90cb8e10
 returns-2 : tie.Need-returns-2
-returns-2 c = search needs
+returns-2 c = simp (c .before .r .given .1)
 
 pub reading-refusal-spec : {M : Type 1} → statement M
 reading-refusal-spec = tie.close (tie.spec enum-told enum-known-r returns returns-2)

@@ -12,8 +12,8 @@ use Rattle.site.proofs.allele_at.Reads as reads
 use Rattle.site.proofs.allele_at.Lts as lts
 use Rattle.site.proofs.judge_allele_bytes.Reads as judge-allele-bytes-reads
 use Rattle.site.proofs.past_elements.Reads as past-elements-reads
-use Rattle.site.proofs.past_value.Reads as past-value-reads
 use Rattle.values.proofs.value_at.Reads as value-at-reads
+use Rattle.values.proofs.value_refusal.Reads as value-refusal-reads
 
 value-at-requires : tie.Need-value-at-requires
 value-at-requires c κs = search needs
@@ -24,13 +24,13 @@ enum-known-v c = search needs
 enum-told : tie.Need-enum-told
 enum-told c = search needs
 
-past-value-requires : tie.Need-past-value-requires
-past-value-requires c κs = search needs
+value-refusal-requires : tie.Need-value-refusal-requires
+value-refusal-requires c κs = search needs
 
 returns : tie.Need-returns
 unfolding allele
 returns c =
-    (simp (← c .before .before .before .value-at .ensures .0, c .before .enum-told .given .1, c .past-value .ensures), rw (c .past-value .ensures, c .before .enum-told .given .1) tt)
+    (simp (← c .before .before .before .value-at .ensures .0, c .before .enum-told .given .1, c .value-refusal .ensures), tt)
 
 returns-2 : tie.Need-returns-2
 unfolding allele
@@ -85,7 +85,7 @@ allele-at-spec =
     value-at-requires
     enum-known-v
     enum-told
-    past-value-requires
+    value-refusal-requires
     returns
     returns-2
     sub-judge-allele-bytes

@@ -11,8 +11,8 @@ use Rattle.site.proofs.filter_at.Reads as reads
 use Rattle.site.proofs.filter_at.Lts as lts
 use Rattle.site.proofs.judge_filters.Reads as judge-filters-reads
 use Rattle.site.proofs.past_elements.Reads as past-elements-reads
-use Rattle.site.proofs.past_value.Reads as past-value-reads
 use Rattle.values.proofs.value_at.Reads as value-at-reads
+use Rattle.values.proofs.value_refusal.Reads as value-refusal-reads
 
 value-at-requires : tie.Need-value-at-requires
 value-at-requires c κs = search needs
@@ -23,13 +23,13 @@ enum-known-v c = search needs
 enum-told : tie.Need-enum-told
 enum-told c = search needs
 
-past-value-requires : tie.Need-past-value-requires
-past-value-requires c κs = search needs
+value-refusal-requires : tie.Need-value-refusal-requires
+value-refusal-requires c κs = search needs
 
 returns : tie.Need-returns
 unfolding filter
 returns c =
-    (simp (← c .before .before .before .value-at .ensures .0, c .before .enum-told .given .1, c .past-value .ensures), rw (c .past-value .ensures, c .before .enum-told .given .1) tt)
+    (simp (← c .before .before .before .value-at .ensures .0, c .before .enum-told .given .1, c .value-refusal .ensures), tt)
 
 sub-judge-filters : tie.Need-sub-judge-filters
 sub-judge-filters c =
@@ -78,7 +78,7 @@ filter-at-spec =
     value-at-requires
     enum-known-v
     enum-told
-    past-value-requires
+    value-refusal-requires
     returns
     sub-judge-filters
     part-judge-filters-start

@@ -9,8 +9,8 @@ use Rattle.site.proofs.info_at.Statement.{statement}
 use Rattle.site.proofs.info_at.Tie as tie
 use Rattle.site.proofs.info_at.Reads as reads
 use Rattle.site.proofs.info_at.Lts as lts
-use Rattle.site.proofs.past_key.Reads as past-key-reads
 use Rattle.site.proofs.past_value.Reads as past-value-reads
+use Rattle.values.proofs.integer_refusal.Reads as integer-refusal-reads
 use Rattle.values.proofs.key_at.Reads as key-at-reads
 use Rattle.vectors.proofs.sound_value_at.Reads as sound-value-at-reads
 
@@ -23,18 +23,14 @@ enum-known-k c = search needs
 enum-told : tie.Need-enum-told
 enum-told c = search needs
 
-past-key-requires : tie.Need-past-key-requires
-past-key-requires c κs = search needs
+integer-refusal-requires : tie.Need-integer-refusal-requires
+integer-refusal-requires c κs = search needs
 
--- fill: e4644693
 returns : tie.Need-returns
 unfolding info
 returns c = (
-  simp (← c .before .before .before .key-at .ensures .0, c .before .enum-told .given .1, c .past-key .ensures),
-  rw (
-    c .past-key .ensures,
-    c .before .enum-told .given .1,
-  ) (search needs),
+  simp (← c .before .before .before .key-at .ensures .0, c .before .enum-told .given .1, c .integer-refusal .ensures),
+  tt,
 )
 
 sound-value-at-requires : tie.Need-sound-value-at-requires
@@ -66,7 +62,7 @@ info-at-spec =
     key-at-requires
     enum-known-k
     enum-told
-    past-key-requires
+    integer-refusal-requires
     returns
     sound-value-at-requires
     past-value-requires

@@ -15,8 +15,9 @@ enum-known-d c = search needs
 returns : tie.Need-returns
 returns c = simp (c .enum-told .given .1)
 
+-- fill: 7c0d2332
 returns-2 : tie.Need-returns-2
-returns-2 c = search needs
+returns-2 c = simp (c .before .d .given .1)
 
 pub descriptor-refusal-spec : {M : Type 1} → statement M
 descriptor-refusal-spec = tie.close (tie.spec enum-told enum-known-d returns returns-2)

@@ -15,8 +15,9 @@ enum-known-i c = search needs
 returns : tie.Need-returns
 returns c = simp (c .enum-told .given .1)
 
+-- fill: db0550f4
 returns-2 : tie.Need-returns-2
-returns-2 c = search needs
+returns-2 c = simp (c .before .i .given .1)
 
 pub integer-refusal-spec : {M : Type 1} → statement M
 integer-refusal-spec = tie.close (tie.spec enum-told enum-known-i returns returns-2)

@@ -14,7 +14,7 @@ use Rattle.vectors.proofs.vector_at.Tie as tie
 use Rattle.vectors.proofs.vector_at.Reads as reads
 use Rattle.vectors.proofs.vector_at.Lts as lts
 use Rattle.vectors.proofs.judge_one.Reads as judge-one-reads
-use Rattle.vectors.proofs.stop_at.Reads as stop-at-reads
+use Rattle.vectors.proofs.turn_refusal.Reads as turn-refusal-reads
 use Rattle.words.proofs.word.Reads as word-reads
 
 abbrev Inv-loop : tie.InvT-loop
@@ -51,16 +51,16 @@ enum-known-t c = search needs
 enum-told : tie.Need-enum-told Inv-loop μ-loop
 enum-told c = search needs
 
-stop-at-requires : tie.Need-stop-at-requires Inv-loop μ-loop
-stop-at-requires c κs = search needs
+turn-refusal-requires : tie.Need-turn-refusal-requires Inv-loop μ-loop
+turn-refusal-requires c κs = search needs
 
 returns : tie.Need-returns Inv-loop μ-loop
 returns c =
     let l = c .before .before .before .before .before .before .before .loop in
     let a = c .before .before .before .before .before .before .before .before .before .args in
     let e = c .before .before .before .before .word .ensures ∙ number-at (a .part .now) (l .at) (a .w) (c .before .before .before .before .before .before .before .before .before .pre .1) in (
-      rw (l .inv .0, vector-turn _ _ _ _ _ _ _ (c .before .before .before .before .before .before .loop-test .taken), ← e, ← c .before .before .before .judge-one .ensures, c .before .enum-told .given .1, c .stop-at .ensures, c .before .enum-told .given .1),
-      rw (c .stop-at .ensures, c .before .enum-told .given .1) (omega arith),
+      rw (l .inv .0, vector-turn _ _ _ _ _ _ _ (c .before .before .before .before .before .before .loop-test .taken), ← e, ← c .before .before .before .judge-one .ensures, c .before .enum-told .given .1, c .turn-refusal .ensures, c .before .enum-told .given .1),
+      rw (c .turn-refusal .ensures, c .before .enum-told .given .1) (omega arith),
     )
 
 sub-left : tie.Need-sub-left Inv-loop μ-loop
@@ -99,7 +99,7 @@ vector-at-spec =
     judge-one-requires
     enum-known-t
     enum-told
-    stop-at-requires
+    turn-refusal-requires
     returns
     sub-left
     loop-less
