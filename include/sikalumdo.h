@@ -82,7 +82,7 @@ extern "C" {
 #define SIKALUMDO_SITE_LENGTH 0    /* bytes of the record */
 #define SIKALUMDO_SITE_BORDER 1    /* place where the genotype block begins */
 #define SIKALUMDO_SITE_CHROM 2     /* CHROM, POS, rlen: the 32 bits of a signed number; cast by way of uint32_t */
-#define SIKALUMDO_SITE_POS 3       /* zero-based; VCF's position is one more; -1 stands as 4294967295 */
+#define SIKALUMDO_SITE_POS 3       /* zero-based; -1 stands as 4294967295; VCF's position: sikalumdo_vcf_pos */
 #define SIKALUMDO_SITE_RLEN 4
 #define SIKALUMDO_SITE_QUAL 5      /* 32 float bits; SIKALUMDO_FLOAT_MISSING for none */
 #define SIKALUMDO_SITE_ALLELES 6   /* REF is one of them */
@@ -144,6 +144,13 @@ uint64_t sikalumdo_read(const uint8_t *s, size_t s_len, uint32_t strings, uint32
                         uint32_t gt, uint64_t *out, size_t out_len);
 
 /*
+ * Gives the VCF position of a record: `pos` is what sikalumdo_read told at SIKALUMDO_SITE_POS.
+ * Answers one more, as VCF counts the first base as 1; of -1, that is 4294967295, it is 0. Nothing is refused.
+ * Writes nothing.
+ */
+int32_t sikalumdo_vcf_pos(uint32_t pos);
+
+/*
  * Fetches the field of a kind and a number, from 0, of the record at the start of `s`. ID and FILTER have number 0
  * only; a FORMAT value is all people's elements, each person's vector in turn.
  * Answers the bytes of its elements, which stand in `s` itself from its place on. Refusals: reading's; 16 where
@@ -171,8 +178,9 @@ uint64_t sikalumdo_field_of(const uint8_t *s, size_t s_len, const uint64_t *site
 /*
  * Shows an element, from 0, of a fetched part: `part` points at the field's place and has the bytes that the fetch
  * or the pair answered; `code` is the field's type.
- * Answers the element's 32 bits: an integer of any width as a signed 32-bit number, with the marks above; a float's
- * bits; a byte of text. Refusals: 16 past the last element, or where the type is none of the five.
+ * Answers 32 bits: an integer of any width is a signed 32-bit number, with the marks above, and these are its bits
+ * (cast to int32_t); a float's are its own; text's are its byte. Refusals: 16 past the last element, or where the type
+ * is none of the five.
  * Writes nothing.
  */
 uint64_t sikalumdo_shown(const uint8_t *part, size_t part_len, uint8_t code, size_t index);

@@ -90,9 +90,9 @@ Site = collections.namedtuple(
 Site.__doc__ = """What reading answers, all ints.
 
 length: bytes of the record; border: place of the genotype block; chrom: contig's number; pos: zero-based position, one
-less than VCF's; rlen: bases; qual: 32 float bits, FLOAT_MISSING for none; alleles (with REF), infos, formats, people:
-counts; gt_type: GT's type; gt_length: elements for each person; gt_place: place of the first, just after the descriptor
-where there is none; all three 0 without GT.
+less than VCF's (`vcf_pos` of a Record); rlen: bases; qual: 32 float bits, FLOAT_MISSING for none; alleles (with REF),
+infos, formats, people: counts; gt_type: GT's type; gt_length: elements for each person; gt_place: place of the first,
+just after the descriptor where there is none; all three 0 without GT.
 """
 
 Tally = collections.namedtuple("Tally", "length people without missing calls")
@@ -146,6 +146,11 @@ class Record(Site):
     def _replace(self, **numbers):
         """A Site with other numbers, which are no longer those of these bytes."""
         return Site(*self)._replace(**numbers)
+
+    @property
+    def vcf_pos(self):
+        """The VCF position, where the first base is 1: one more than pos, and 0 for -1."""
+        return _library.sikalumdo_vcf_pos(_low(self.pos))
 
     def fetch(self, kind, number):
         """The field of a kind and a number, as `fetch` answers it. Raises Refusal 16 where there is no such field or kind."""
@@ -427,6 +432,7 @@ def _load():
     for name, types in takes.items():
         function = getattr(library, "sikalumdo_" + name)
         function.argtypes, function.restype = types, ctypes.c_uint64
+    library.sikalumdo_vcf_pos.argtypes, library.sikalumdo_vcf_pos.restype = [word], integer
     return library
 
 

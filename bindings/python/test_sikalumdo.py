@@ -64,7 +64,13 @@ class Reading(Case):
         self.assertEqual(site.gt_place, 46)
 
     def test_position_before_the_first(self):
-        self.assertEqual(sikalumdo.read(RECORD[:12] + b"\xff" * 4 + RECORD[16:], FACTS).pos, -1)
+        record = sikalumdo.read(RECORD[:12] + b"\xff" * 4 + RECORD[16:], FACTS)
+        self.assertEqual((record.pos, record.vcf_pos), (-1, 0))
+
+    def test_vcf_positions(self):
+        for pos, told in ((14369, 14370), (0, 1), (0x7FFFFFFE, 0x7FFFFFFF)):
+            record = RECORD[:12] + pos.to_bytes(4, "little") + RECORD[16:]
+            self.assertEqual(sikalumdo.read(record, FACTS).vcf_pos, told)
 
     def test_no_gt(self):
         self.assertEqual(sikalumdo.read(RECORD, FACTS._replace(gt=0xFFFFFFFF))[-3:], (0, 0, 0))

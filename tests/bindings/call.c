@@ -94,6 +94,8 @@ static void test_reading(void)
     CHECK(is(read_into(record, RECORD, out, SIKALUMDO_SITE_NUMBERS + 1), 0, RECORD));
     CHECK(memcmp(out, told, sizeof told) == 0);
     CHECK(untouched(out + SIKALUMDO_SITE_NUMBERS, sizeof out[0]));
+    CHECK(sikalumdo_vcf_pos((uint32_t)out[SIKALUMDO_SITE_POS]) == 14370);
+    CHECK(sikalumdo_vcf_pos(UINT32_C(4294967295)) == 0 && sikalumdo_vcf_pos(2147483646) == INT32_MAX);
     CHECK(is(sikalumdo_read(record, RECORD, STRINGS, CONTIGS, PEOPLE, 0xFFFFFFFF, out, SIKALUMDO_SITE_NUMBERS), 0,
              RECORD));
     CHECK(out[SIKALUMDO_SITE_GT_TYPE] == 0 && out[SIKALUMDO_SITE_GT_LENGTH] == 0 && out[SIKALUMDO_SITE_GT_PLACE] == 0);

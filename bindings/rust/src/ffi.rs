@@ -23,6 +23,7 @@ extern "C" {
         out: *mut u64,
         out_len: usize,
     ) -> u64;
+    fn sikalumdo_vcf_pos(pos: u32) -> i32;
     fn sikalumdo_fetch(
         s: *const u8,
         s_len: usize,
@@ -138,6 +139,12 @@ pub fn read(s: &[u8], facts: &Facts) -> Result<[u64; 13], Refusal> {
     // SAFETY: lends the record to be read and this function's own 13 numbers to be written.
     opened(unsafe { sikalumdo_read(s.as_ptr(), s.len(), strings, contigs, people, gt, out.as_mut_ptr(), out.len()) })?;
     Ok(out)
+}
+
+/// The VCF position, by the 32 bits of POS as reading told them.
+pub fn vcf_pos(pos: u32) -> i32 {
+    // SAFETY: lends nothing.
+    unsafe { sikalumdo_vcf_pos(pos) }
 }
 
 /// The bytes of the part, and key, type, length, place and stop.

@@ -11,7 +11,7 @@ pub struct Site {
     pub border: u32,
     /// CHROM, an offset below the contigs.
     pub chrom: i32,
-    /// POS, zero-based; the VCF position is one more.
+    /// POS, zero-based; [`Site::vcf_pos`] is the VCF position.
     pub pos: i32,
     /// rlen, 0 or more.
     pub rlen: i32,
@@ -34,6 +34,11 @@ pub struct Site {
 }
 
 impl Site {
+    /// The VCF position, where the first base is 1: one more than POS, and 0 for −1.
+    pub fn vcf_pos(&self) -> i32 {
+        ffi::vcf_pos(self.pos as u32)
+    }
+
     /// The numbers as reading told them.
     #[rustfmt::skip]
     pub(crate) fn numbers(&self) -> [u64; 13] {

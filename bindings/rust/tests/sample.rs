@@ -60,6 +60,17 @@ fn the_sample_is_read() {
 }
 
 #[test]
+fn positions_are_told_as_vcf_counts_them() {
+    let (facts, mut record) = sample();
+    assert_eq!(read(&record, &facts).expect("an accepted record").vcf_pos(), 14_370);
+    for (pos, told) in [(-1, 0), (0, 1), (i32::MAX - 1, i32::MAX)] {
+        record[12..16].copy_from_slice(&i32::to_le_bytes(pos));
+        let site = read(&record, &facts).expect("an accepted record");
+        assert_eq!((site.pos, site.vcf_pos()), (pos, told));
+    }
+}
+
+#[test]
 fn values_are_fetched_and_shown() {
     let (facts, record) = sample();
     let reference = fetch(&record, &facts, Kind::ALLELE, 0).expect("REF");

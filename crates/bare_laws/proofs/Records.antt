@@ -13,6 +13,7 @@ use Rattle.values.specs.declared.Integer.{Integer}
 use Rattle.values.specs.declared.Integer.the-variants.{One, Refused as NoInteger}
 use Rattle.values.specs.declared.Value.{Value}
 use Rattle.values.specs.declared.Value.the-variants.{Present, Refused as NoValue}
+use Rattle.positions.specs.Positions.{posOf}
 use Rattle.fixed.specs.Layout.{indivAt, chromAt, posAt, rlenAt, qualAt, countsAt, peopleAt, idAt, field}
 use Rattle.facts.specs.declared.Facts.{Facts}
 use Rattle.fixed.specs.declared.Site.{Site}
@@ -148,7 +149,7 @@ fits-ones f s t x =
       most = x .most;
       site = x .site;
       chrom = same chromAt (omega arith) ∙ x .chrom;
-      pos = same posAt (omega arith) ∙ x .pos;
+      pos = ap posOf (same posAt (omega arith)) ∙ x .pos;
       rlen = same rlenAt (omega arith) ∙ x .rlen;
       qual = same qualAt (omega arith) ∙ x .qual;
       alleles = rw counts (x .alleles);
@@ -156,7 +157,7 @@ fits-ones f s t x =
       formats = rw people (x .formats);
       people = rw people (x .people);
       chromRight = x .chromRight;
-      posRight = x .posRight;
+      posRight = rw (same posAt (omega arith)) (x .posRight);
       rlenRight = x .rlenRight;
       qualRight = x .qualRight;
       countsRight = x .countsRight;

@@ -7,6 +7,7 @@ ghost use Prim.Native.Nat.{_+_, _<_, _≤_};
 ghost use lib.ListN.{length};
 ghost use mir.Syntax.{w32};
 ghost use mir.Val.{ofZ};
+ghost use Rattle.positions.specs.Positions.{posBits};
 ghost use Rattle.fixed.specs.Layout.{mostBytes};
 ghost use Rattle.vectors.specs.Sound.{mostOf};
 ghost use Rattle.genotypes.specs.Formats.{roleOf};
@@ -17,6 +18,7 @@ use build_append::Field;
 use build_append::Written;
 use build_append::first_of;
 use facts::Facts;
+use positions::BcfPosition;
 use values::Refusal;
 
 // The last turn that was taken.
@@ -124,22 +126,22 @@ fn begun_state(facts: Facts) -> Builder
     }
 }
 
-// Begin: CHROM, POS and rlen as numbers, QUAL as float bits. Writes the first 32 bytes, with lengths and counts 0; or 12, where the state is not
+// Begin: CHROM and rlen as numbers, POS as the zero-based position that it is, QUAL as float bits. Writes the first 32 bytes, with lengths and counts 0; or 12, where the state is not
 // fresh, 5, 13.
 pub fn begin(
     state: Builder,
     buf: &mut [u8],
     facts: Facts,
     chrom: i32,
-    pos: i32,
+    pos: BcfPosition,
     rlen: i32,
     qual: u32,
 ) -> Turned
-    ensures told { λ r. ⌜ r ≡ begun state (length (now (buf .entry))) facts (ofZ w32 chrom) (ofZ w32 pos) (ofZ w32 rlen) qual ⌝ }
-    ensures written { λ _. ⌜ now (buf .exit) ≡ afterBegin state (now (buf .entry)) facts (ofZ w32 chrom) (ofZ w32 pos) (ofZ w32 rlen) qual ⌝ }
+    ensures told { λ r. ⌜ r ≡ begun state (length (now (buf .entry))) facts (ofZ w32 chrom) (posBits pos) (ofZ w32 rlen) qual ⌝ }
+    ensures written { λ _. ⌜ now (buf .exit) ≡ afterBegin state (now (buf .entry)) facts (ofZ w32 chrom) (posBits pos) (ofZ w32 rlen) qual ⌝ }
 {
     let c = words::bits(chrom);
-    let p = words::bits(pos);
+    let p = positions::to_bits(pos);
     let l = words::bits(rlen);
     let stage = state.stage;
     let rank = rank_of(stage);

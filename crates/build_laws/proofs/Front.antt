@@ -1,6 +1,6 @@
 -- The front of a record as it is written: each fixed field is read as it was given, and keeps its rule. Rests on build's front and on the facts
 -- that a site fits.
-use mathlib.Core.Path.{_≡_, refl}
+use mathlib.Core.Path.{_≡_, refl, ap}
 use mathlib.Core.List.{List, _++_, append-assoc}
 use mathlib.Core.Bool.{false}
 use Prim.Native.Nat.{ℕ, zero, suc, _+_, _-_, _<_, _≤_}
@@ -12,6 +12,7 @@ use borrow.Author.Tests.{ltb-false, eq-eqb, ne-eqb}
 use Rattle.words.proofs.Pick.{pick-zero}
 use Rattle.words.specs.Words.{bytes, outside}
 use Rattle.words.proofs.Words.{number-bytes}
+use Rattle.positions.specs.Positions.{posOf}
 use Rattle.fixed.specs.Layout.{indivAt, chromAt, posAt, rlenAt, countsAt, peopleAt, qualAt, idAt, countsOf, membersOf, field, posWrong, rlenWrong, peopleWrong, qualWrong}
 use Rattle.facts.specs.declared.Facts.{Facts}
 use Rattle.fixed.specs.declared.Site.{Site}
@@ -29,7 +30,7 @@ siteFor people r =
       length = length (recordBytes people r);
       border = idAt + length (siteBytes r);
       chrom = r .chrom;
-      pos = r .pos;
+      pos = posOf (r .pos);
       rlen = r .rlen;
       qual = r .qual;
       alleles = length (r .alleles);
@@ -139,7 +140,7 @@ fits-record f r rest k =
       most = most;
       site = omega arith;
       chrom = x .chrom;
-      pos = x .pos;
+      pos = ap posOf (x .pos);
       rlen = x .rlen;
       qual = x .qual;
       alleles = rw counts (omega arith);
@@ -147,7 +148,7 @@ fits-record f r rest k =
       formats = rw members (omega arith);
       people = rw members (omega arith);
       chromRight = right .chrom;
-      posRight = right .pos;
+      posRight = rw (x .pos) (right .pos);
       rlenRight = right .rlen;
       countsRight = ne-eqb (length (r .alleles)) 0 (λ e. omega arith);
       peopleRight = people-right people (length (r .formats)) (k .people);

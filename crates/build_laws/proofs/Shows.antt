@@ -11,6 +11,7 @@ use borrow.Author.Tests.{ne-eqb}
 use Rattle.types.specs.Rows.{rowOf, allowed}
 use Rattle.types.specs.declared.Use.{Use}
 use Rattle.types.specs.declared.Use.the-variants.{Id, Allele, Filter, Info, Format}
+use Rattle.positions.proofs.Convert.{posBits-posOf}
 use Rattle.fixed.specs.Layout.{idAt, mostBytes}
 use Rattle.facts.specs.declared.Facts.{Facts}
 use Rattle.encode.specs.Encode.{integerBytes, descriptorBytes, widest}
@@ -204,5 +205,6 @@ shownOf-record f r rest k h g =
       x .alleles,
       x .filters,
       x .infos,
+      posBits-posOf (r .pos) (k .bits .1),
       fields-given f (length (r .alleles)) [] (idAt + length (siteBytes r)) (r .formats) (k .people) (k .formats) g,
     )

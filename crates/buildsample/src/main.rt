@@ -3,6 +3,7 @@
 use build::Builder;
 use build::Turned;
 use facts::Facts;
+use positions::BcfPosition;
 
 // Whether a turn was taken.
 fn is_taken(turned: Turned) -> bool {
@@ -16,7 +17,7 @@ fn is_taken(turned: Turned) -> bool {
 // The turns up to the last allele, or to the first that is refused.
 fn first_turns(facts: Facts, buf: &mut [u8]) -> Turned {
     let fresh = build::fresh();
-    let begun = build::begin(fresh, buf, facts, 0, 14369, 1, 0x41E80000);
+    let begun = build::begin(fresh, buf, facts, 0, BcfPosition(14369), 1, 0x41E80000);
     if !is_taken(begun) {
         return begun;
     }

@@ -7,6 +7,7 @@ use lib.ListN.{length, getD}
 use Rattle.words.specs.Pick.{pick}
 use Rattle.stores.specs.Stores.{filled}
 use Rattle.values.specs.declared.Refusal.{Refusal}
+use Rattle.positions.specs.Positions.{posOf, posBits}
 use Rattle.fixed.specs.declared.Site.{Site}
 use Rattle.genotypes.specs.declared.Gt.{Gt}
 use Rattle.record.specs.declared.Reading.{Reading}
@@ -37,16 +38,16 @@ refusedAnswer r = answer (r .number) (r .place)
 unfoldable pub toldAnswer : ℕ → List ℕ → ℕ → ℕ
 toldAnswer room numbers low = pick (ltb room (length numbers)) (answer 13 0) (answer 0 low)
 
--- reading: the record's length and border, the fixed fields, the four counts, and GT's type, length and place
+-- reading: the record's length and border, the fixed fields, POS by its 32 bits, the four counts, and GT's type, length and place
 abbrev pub siteNumbers : Site → Gt → List ℕ
 siteNumbers t g =
-    t .length ∷ t .border ∷ t .chrom ∷ t .pos ∷ t .rlen ∷ t .qual ∷ t .alleles ∷ t .infos ∷ t .formats ∷ t .people
+    t .length ∷ t .border ∷ t .chrom ∷ posBits (t .pos) ∷ t .rlen ∷ t .qual ∷ t .alleles ∷ t .infos ∷ t .formats ∷ t .people
     ∷ g .code ∷ g .len ∷ g .first ∷ []
 
 -- the other way: the site that such numbers hold, each as far as its field's type goes. Fewer than 13 hold one whose blocks are empty: ID and FILTER
 -- are counted in every site, but nothing stands there, so no field is found
 abbrev pub emptySite : Site
-emptySite = record { length = 0; border = 0; chrom = 0; pos = 0; rlen = 0; qual = 0; alleles = 0; infos = 0; formats = 0; people = 0 }
+emptySite = record { length = 0; border = 0; chrom = 0; pos = posOf 0; rlen = 0; qual = 0; alleles = 0; infos = 0; formats = 0; people = 0 }
 
 unfoldable pub siteTold : List ℕ → Site
 siteTold ns =
@@ -55,7 +56,7 @@ siteTold ns =
       length = getD ns 0 0;
       border = getD ns 1 0;
       chrom = getD ns 2 0 % 4294967296;
-      pos = getD ns 3 0 % 4294967296;
+      pos = posOf (getD ns 3 0 % 4294967296);
       rlen = getD ns 4 0 % 4294967296;
       qual = getD ns 5 0 % 4294967296;
       alleles = getD ns 6 0 % 65536;

@@ -84,11 +84,12 @@ pub fn tell_reading(r: Reading, out: &mut [u64]) -> u64
     let Reading::Accepted { site, gt } = r else {
         return refused_answer(record::reading_refusal(r));
     };
+    let pos = positions::to_bits(site.pos);
     let numbers = [
         site.length as u64,
         site.border as u64,
         site.chrom as u64,
-        site.pos as u64,
+        pos as u64,
         site.rlen as u64,
         site.qual as u64,
         site.alleles as u64,
@@ -110,7 +111,7 @@ fn empty_site() -> Site
         length: 0,
         border: 0,
         chrom: 0,
-        pos: 0,
+        pos: positions::from_bits(0),
         rlen: 0,
         qual: 0,
         alleles: 0,
@@ -131,7 +132,7 @@ pub fn site_told(numbers: &[u64]) -> Site
         length: numbers[0] as usize,
         border: numbers[1] as usize,
         chrom: (numbers[2] % 4294967296) as u32,
-        pos: (numbers[3] % 4294967296) as u32,
+        pos: positions::from_bits((numbers[3] % 4294967296) as u32),
         rlen: (numbers[4] % 4294967296) as u32,
         qual: (numbers[5] % 4294967296) as u32,
         alleles: (numbers[6] % 65536) as u16,

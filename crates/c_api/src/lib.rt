@@ -6,6 +6,7 @@ ghost use mathlib.Core.List.{map};
 ghost use lib.ListN.{length};
 ghost use mir.Syntax.{w32};
 ghost use mir.Val.{ofZ};
+ghost use Rattle.positions.specs.Positions.{posOf, oneBased};
 ghost use Rattle.record.specs.Reading.{reading};
 ghost use Rattle.shown.specs.Shown.{integers, floats, text};
 ghost use Rattle.fetch.specs.Fetch.{found, fieldOf};
@@ -19,6 +20,7 @@ ghost use Rattle.c_state.specs.Kept.{stateOf, turnAnswer, turnNumbers, freshAns
 ghost use Rattle.c_api.specs.Given.{factsGiven, kindGiven, numberGiven};
 use facts::Facts;
 use fetch::Kind;
+use positions::BcfPosition;
 
 // The kind of a number.
 fn kind_given(kind: u32) -> Kind
@@ -69,6 +71,15 @@ pub extern "C" fn sikalumdo_read(
         gt,
     };
     c_answers::tell_reading(record::read(s, facts), out)
+}
+
+// The VCF position of a record, by POS as reading told it: one more, since VCF counts the first base as 1.
+#[no_mangle]
+pub extern "C" fn sikalumdo_vcf_pos(pos: u32) -> i32
+    ensures { λ r. ⌜ r ≡ oneBased (posOf pos .0) ⌝ }
+{
+    let p = positions::to_vcf(positions::from_bits(pos));
+    p.0
 }
 
 // Fetches the field of a kind and a number: the length of its elements' bytes; `out` gets 5 numbers. A kind outside the five has no field.
@@ -232,7 +243,8 @@ pub extern "C" fn sikalumdo_begin(
         people,
         gt,
     };
-    let t = build::begin(c_state::state_of(state), buf, facts, chrom, pos, rlen, qual);
+    let at = BcfPosition(pos);
+    let t = build::begin(c_state::state_of(state), buf, facts, chrom, at, rlen, qual);
     c_state::keep(state, t)
 }
 

@@ -1,6 +1,6 @@
 -- The front and the site block of the chosen record: all is as it was but l_indiv and the people count. Rests on proofs/Stored,
 -- proofs/Sets, and choose's facts about the front.
-use mathlib.Core.Path.{_≡_, refl, _∙_}
+use mathlib.Core.Path.{_≡_, refl, _∙_, ap}
 use mathlib.Core.List.{List, [], _∷_}
 use mathlib.Core.Bool.{false}
 use Prim.Native.Nat.{ℕ, suc, _+_, _-_, _≤_, _<_, _^_}
@@ -10,6 +10,7 @@ use lib.Seq.{sets, length-sets, length-take-le, take-at, drop-at}
 use borrow.Author.Tests.{eq-eqb, ne-eqb}
 use Rattle.words.specs.Words.{bytes, Bytes}
 use Rattle.words.proofs.Words.{length-bytes}
+use Rattle.positions.specs.Positions.{posOf}
 use Rattle.fixed.specs.Layout.{indivAt, chromAt, posAt, rlenAt, countsAt, peopleAt, qualAt, idAt, membersOf, field, peopleWrong}
 use Rattle.facts.specs.declared.Facts.{Facts}
 use Rattle.fixed.specs.declared.Site.{Site}
@@ -116,6 +117,7 @@ fits-chosenRecord f s t cs b x c n =
     let len = length-chosenRecord t cs s h in
     let e0 : field 0 r ≡ field 0 s = kept-field 0 h (omega arith) (omega arith) (omega arith) in
     let e4 : field indivAt r ≡ size = field-chosenRecord t cs s indivAt h (omega arith) ∙ indiv-chosenSite t cs size s i h few in
+    let pos : field posAt r ≡ field posAt s = kept-field posAt h (omega arith) (omega arith) (omega arith) in
     let counts : field countsAt r ≡ field countsAt s = kept-field countsAt h (omega arith) (omega arith) (omega arith) in
     let told : field peopleAt r ≡ members = field-chosenRecord t cs s peopleAt h (omega arith) ∙ people-chosenSite t cs size s i h small in
     record {
@@ -125,7 +127,7 @@ fits-chosenRecord f s t cs b x c n =
       most = omega arith;
       site = i;
       chrom = kept-field chromAt h (omega arith) (omega arith) (omega arith) ∙ x .chrom;
-      pos = kept-field posAt h (omega arith) (omega arith) (omega arith) ∙ x .pos;
+      pos = ap posOf pos ∙ x .pos;
       rlen = kept-field rlenAt h (omega arith) (omega arith) (omega arith) ∙ x .rlen;
       qual = kept-field qualAt h (omega arith) (omega arith) (omega arith) ∙ x .qual;
       alleles = rw counts (x .alleles);
@@ -133,7 +135,7 @@ fits-chosenRecord f s t cs b x c n =
       formats = rw told (omega arith);
       people = rw told (omega arith);
       chromRight = x .chromRight;
-      posRight = x .posRight;
+      posRight = rw pos (x .posRight);
       rlenRight = x .rlenRight;
       countsRight = x .countsRight;
       peopleRight = people-right cs (t .formats);

@@ -10,6 +10,7 @@ use lib.ListN.{length, take, drop, replicate, length-take, length-drop}
 use Rattle.words.specs.Pick.{pick}
 use Rattle.words.proofs.Places.{drop-on}
 use Rattle.fixed.specs.Layout.{idAt}
+use Rattle.positions.specs.Positions.{posBits}
 use Rattle.fixed.specs.declared.Site.{Site}
 use Rattle.site.specs.declared.Step.{Step}
 use Rattle.site.specs.declared.Step.the-variants.{At, Refused as NoStep}
@@ -108,7 +109,7 @@ unfoldable pub itemsShown : Site → List Item → Shown
 itemsShown t is =
     record {
       chrom = t .chrom;
-      pos = t .pos;
+      pos = posBits (t .pos);
       rlen = t .rlen;
       qual = t .qual;
       id = flatten (map bytesOf (itemsFor Id is));
@@ -213,7 +214,7 @@ unfoldable pub blocksShown : Site → List ℕ → List ℕ → Shown
 blocksShown t l m =
     record {
       chrom = t .chrom;
-      pos = t .pos;
+      pos = posBits (t .pos);
       rlen = t .rlen;
       qual = t .qual;
       id = flatten (eachIn bytesOf Id (t .alleles) 1 idAt l);

@@ -3,6 +3,7 @@
 use Prim.Native.Nat.{ℕ, _-_}
 use mathlib.Core.List.{List, map, flatten}
 use lib.ListN.{drop}
+use Rattle.positions.specs.Positions.{posBits}
 use Rattle.fixed.specs.declared.Site.{Site}
 use Rattle.shown.specs.Shown.{Elements, Pair, Field, Shown, kindOf}
 use Rattle.vectors.specs.Vectors.{elementsOf}
@@ -28,7 +29,7 @@ unfoldable pub shownOf : Site → List ℕ → Shown
 shownOf t s =
     record {
       chrom = t .chrom;
-      pos = t .pos;
+      pos = posBits (t .pos);
       rlen = t .rlen;
       qual = t .qual;
       id = flatten (map (elementsAt s) (ofKind Id (account t s)));

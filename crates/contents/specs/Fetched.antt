@@ -6,6 +6,7 @@ use mathlib.Core.List.{List, [], _∷_}
 use lib.ListN.{length, getD}
 use Rattle.values.specs.Answers.{refusal}
 use Rattle.facts.specs.declared.Facts.{Facts}
+use Rattle.positions.specs.Positions.{posBits}
 use Rattle.fixed.specs.declared.Site.{Site}
 use Rattle.shown.specs.Shown.{integers, Pair, Field, kindOf}
 use Rattle.fetch.specs.Account.{countOf}
@@ -64,7 +65,7 @@ pub record GivesField (f : Facts) (s : List ℕ) (number people : ℕ) (x : Fiel
 -- than i, whatever d is
 pub record ShownFetched (f : Facts) (s : List ℕ) (t : Site) : Type 0 where
   pub chrom : shownOf t s .chrom ≡ t .chrom
-  pub pos : shownOf t s .pos ≡ t .pos
+  pub pos : shownOf t s .pos ≡ posBits (t .pos)
   pub rlen : shownOf t s .rlen ≡ t .rlen
   pub qual : shownOf t s .qual ≡ t .qual
   pub id : GivesText f s Id 0 (shownOf t s .id)

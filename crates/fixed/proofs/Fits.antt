@@ -10,6 +10,7 @@ use borrow.Author.Tests.{ltb-false, le-ltb, eqb-true, eq-eqb}
 use Rattle.words.specs.Pick.{pick}
 use Rattle.words.proofs.Pick.{pick-zero}
 use Rattle.words.specs.Words.{outside}
+use Rattle.positions.specs.Positions.{posOf}
 use Rattle.values.specs.declared.Refusal.{Refusal}
 use Rattle.fixed.specs.Layout.{indivAt, chromAt, posAt, rlenAt, countsAt, peopleAt, qualAt, idAt, allelesIn, infosIn, formatsIn, peopleIn, mostBytes, field, posWrong, rlenWrong, countsWrong, peopleWrong, qualWrong}
 use Rattle.fixed.specs.Fixed.{noSite, blocks, wrongAt, siteAt, fields, fixed}
@@ -27,7 +28,7 @@ pub record Fits (f : Facts) (s : List ℕ) (t : Site) : Type 0 where
   pub most : t .length ≤ mostBytes
   pub site : idAt ≤ t .border
   pub chrom : field chromAt s ≡ t .chrom
-  pub pos : field posAt s ≡ t .pos
+  pub pos : posOf (field posAt s) ≡ t .pos
   pub rlen : field rlenAt s ≡ t .rlen
   pub qual : field qualAt s ≡ t .qual
   pub alleles : allelesIn (field countsAt s) ≡ t .alleles
@@ -35,7 +36,7 @@ pub record Fits (f : Facts) (s : List ℕ) (t : Site) : Type 0 where
   pub formats : formatsIn (field peopleAt s) ≡ t .formats
   pub people : peopleIn (field peopleAt s) ≡ t .people
   pub chromRight : outside (f .contigs) (t .chrom) ≡ false
-  pub posRight : posWrong (t .pos) ≡ false
+  pub posRight : posWrong (field posAt s) ≡ false
   pub rlenRight : rlenWrong (t .rlen) ≡ false
   pub qualRight : qualWrong (t .qual) ≡ false
   pub countsRight : countsWrong (t .alleles) ≡ false
@@ -157,7 +158,7 @@ fits-right : (f : Facts) (s : List ℕ) (t : Site) → Fits f s t → Right f s
 fits-right f s t x =
     record {
       chrom = rw (x .chrom) (x .chromRight);
-      pos = rw (x .pos) (x .posRight);
+      pos = x .posRight;
       rlen = rw (x .rlen) (x .rlenRight);
       qual = rw (x .qual) (x .qualRight);
       counts = rw (x .alleles) (x .countsRight);

@@ -1,10 +1,11 @@
--- The front of a record: the two lengths, and then the fixed fields in the order of their bytes. Rests on the layout.
+-- The front of a record: the two lengths, and then the fixed fields in the order of their bytes. Rests on the layout and on positions.
 use Prim.Native.Nat.{ℕ, _+_, _≤_}
 use mathlib.Core.List.{List, [], _∷_}
 use lib.Dec.{ltb, eqb}
 use lib.ListN.{length}
 use Rattle.words.specs.Pick.{pick}
 use Rattle.words.specs.Words.{outside}
+use Rattle.positions.specs.Positions.{posOf, posBits}
 use Rattle.values.specs.Answers.{refusal, Says, refuses, holds}
 use Rattle.fixed.specs.Layout.{indivAt, chromAt, posAt, rlenAt, countsAt, peopleAt, qualAt, idAt, allelesIn, infosIn, formatsIn, peopleIn, mostBytes, field, posWrong, rlenWrong, countsWrong, peopleWrong, qualWrong}
 use Rattle.facts.specs.declared.Facts.{Facts}
@@ -28,7 +29,7 @@ blocksSays (Lent border whole) = holds (border ∷ whole ∷ [])
 
 abbrev pub siteValues : Site → List ℕ
 siteValues t =
-    t .length ∷ t .border ∷ t .chrom ∷ t .pos ∷ t .rlen ∷ t .qual ∷ t .alleles ∷ t .infos ∷ t .formats ∷ t .people ∷ []
+    t .length ∷ t .border ∷ t .chrom ∷ posBits (t .pos) ∷ t .rlen ∷ t .qual ∷ t .alleles ∷ t .infos ∷ t .formats ∷ t .people ∷ []
 
 abbrev pub fixedSays : Fixed → Says
 fixedSays (NoSite r) = refuses r
@@ -64,7 +65,7 @@ siteAt border whole s =
       length = whole;
       border = border;
       chrom = field chromAt s;
-      pos = field posAt s;
+      pos = posOf (field posAt s);
       rlen = field rlenAt s;
       qual = field qualAt s;
       alleles = allelesIn (field countsAt s);

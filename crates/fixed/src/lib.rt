@@ -1,20 +1,21 @@
 // The two lengths and the fixed fields at the front of a record, judged in the order of their bytes.
-// Rests on words for the numbers and on values for the form of a refusal.
+// Rests on words for the numbers, on positions for POS and on values for the form of a refusal.
 ghost use mathlib.Core.Path.{_≡_};
 ghost use lib.ListN.{length};
 ghost use Rattle.values.specs.Answers.{refusalIn};
 ghost use Rattle.fixed.specs.Layout.{field, posWrong, peopleWrong, qualWrong};
 ghost use Rattle.fixed.specs.Fixed.{blocksSays, fixedSays, blocks, wrongAt, siteAt, fixed, blocksInside, fixedInside};
 use facts::Facts;
+use positions::BcfPosition;
 use values::Refusal;
 
 // The site of a record: its length, the place where its genotype block begins, the fixed fields and the four counts.
-// POS is kept as its 32 bits, and QUAL is never anything else.
+// QUAL is kept as its 32 bits and is never anything else.
 pub struct Site {
     pub length: usize,
     pub border: usize,
     pub chrom: u32,
-    pub pos: u32,
+    pub pos: BcfPosition,
     pub rlen: u32,
     pub qual: u32,
     pub alleles: u16,
@@ -203,7 +204,7 @@ fn site_at(s: &[u8], border: usize, length: usize) -> Site
         length,
         border,
         chrom: field_at(s, CHROM),
-        pos: field_at(s, POS),
+        pos: positions::from_bits(field_at(s, POS)),
         rlen: field_at(s, RLEN),
         qual: field_at(s, QUAL),
         alleles: (counts / ALLELE) as u16,

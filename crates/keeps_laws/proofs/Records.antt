@@ -10,6 +10,8 @@ use lib.ListN.{length, take, drop, length-append, length-drop}
 use lib.Seq.{length-take-le}
 use borrow.Author.Tests.{eqb-false, le-ltb}
 use Rattle.words.specs.Words.{Bytes}
+use Rattle.positions.specs.Positions.{posBits}
+use Rattle.positions.proofs.Convert.{posBits-posOf}
 use Rattle.fixed.specs.Layout.{chromAt, posAt, rlenAt, qualAt, countsAt, peopleAt, idAt, field}
 use Rattle.facts.specs.declared.Facts.{Facts}
 use Rattle.fixed.specs.declared.Site.{Site}
@@ -51,7 +53,7 @@ record Block (strings : ℕ) (t : Site) (l : List ℕ) : Type 0 where
   filters : List ℕ
   infos : List Pair
   shows : (m : List ℕ) → blocksShown t l m
-      ≡ shownAs (t .chrom) (t .pos) (t .rlen) (t .qual) id alleles filters infos (fieldsAt (t .people) (t .formats) (t .border) m)
+      ≡ shownAs (t .chrom) (posBits (t .pos)) (t .rlen) (t .qual) id alleles filters infos (fieldsAt (t .people) (t .formats) (t .border) m)
   id-fit : Fit text id
   id-rules : givenNumber any text (length id) id ≡ 0
   alleles-count : length alleles ≡ t .alleles
@@ -108,8 +110,8 @@ block f t l e h b =
 
 -- the fixed fields of a front that fits its site
 record Front (f : Facts) (t : Site) : Type 0 where
-  bits : (t .chrom < 4294967296) × (t .pos < 4294967296) × (t .rlen < 4294967296) × (t .qual < 4294967296)
-  fields : fieldsNumber f (t .chrom) (t .pos) (t .rlen) (t .qual) ≡ 0
+  bits : (t .chrom < 4294967296) × (posBits (t .pos) < 4294967296) × (t .rlen < 4294967296) × (t .qual < 4294967296)
+  fields : fieldsNumber f (t .chrom) (posBits (t .pos)) (t .rlen) (t .qual) ≡ 0
   some : 0 < t .alleles
   alleles-most : t .alleles ≤ 65535
   infos-most : t .infos ≤ 65535
@@ -122,6 +124,7 @@ unfolding fieldsNumber
 front f s t b x =
     let size : idAt ≤ length s = omega (arith, x .border, x .whole, x .there, x .site) in
     let bound : (p : ℕ) → p + 4 ≤ idAt → field p s < 4294967296 = λ p h. field-bound p s b (omega arith) in
+    let pos : posBits (t .pos) ≡ field posAt s = ap posBits (sym (x .pos)) ∙ posBits-posOf (field posAt s) (bound posAt (omega arith)) in
     let counts = bound countsAt (omega arith) in
     let members = bound peopleAt (omega arith) in
     let g = people-given (f .people) (t .formats) (t .people) (x .peopleRight) in
@@ -129,11 +132,11 @@ front f s t b x =
     record {
       bits = (
         rw (x .chrom) at (bound chromAt (omega arith)),
-        rw (x .pos) at (bound posAt (omega arith)),
+        rw pos (bound posAt (omega arith)),
         rw (x .rlen) at (bound rlenAt (omega arith)),
         rw (x .qual) at (bound qualAt (omega arith)),
       );
-      fields = rw (x .chromRight, x .posRight, x .rlenRight, x .qualRight, le-ltb 16777215 (f .people) people);
+      fields = rw (x .chromRight, pos, x .posRight, x .rlenRight, x .qualRight, le-ltb 16777215 (f .people) people);
       some = let e = eqb-false (t .alleles) 0 (x .countsRight) in omega arith;
       alleles-most = omega (arith, x .alleles);
       infos-most = omega (arith, x .infos);
@@ -158,7 +161,7 @@ unfolding siteBytes genotypeBytes
 together f s t x o g k =
     let calls = drop (t .border) (take (t .length) s) in
     let fields = fieldsAt (f .people) (t .formats) (t .border) calls in
-    let r = shownAs (t .chrom) (t .pos) (t .rlen) (t .qual) (k .id) (k .alleles) (k .filters) (k .infos) fields in
+    let r = shownAs (t .chrom) (posBits (t .pos)) (t .rlen) (t .qual) (k .id) (k .alleles) (k .filters) (k .infos) fields in
     let inner : length (drop idAt (take (t .border) s)) ≡ t .border - idAt =
     rw (length-drop, length-take-le (t .border) s (omega (arith, x .border, x .whole, x .there))) in
     let outer : length calls ≡ t .length - t .border = rw (length-drop, length-take-le (t .length) s (x .there)) in

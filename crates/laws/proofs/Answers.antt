@@ -10,7 +10,8 @@ use borrow.Author.Tests.{lt-ltb, le-ltb}
 use Rattle.words.specs.Words.{Bytes}
 use Rattle.values.specs.Answers.{refusal}
 use Rattle.values.specs.Values.{present, described}
-use Rattle.fixed.specs.Layout.{chromAt, posAt, rlenAt, qualAt, countsAt, peopleAt}
+use Rattle.positions.proofs.Convert.{posBits-bound, posOf-fits, posOf-posBits}
+use Rattle.fixed.specs.Layout.{chromAt, posAt, rlenAt, qualAt, countsAt, peopleAt, field}
 use Rattle.facts.specs.declared.Facts.{Facts}
 use Rattle.fixed.specs.declared.Site.{Site}
 use Rattle.genotypes.specs.declared.Gt.{Gt}
@@ -66,7 +67,7 @@ site-back : (t : Site) (g : Gt) (rest : List ℕ) → SiteRanges t → siteTold 
 unfolding siteTold
 site-back t g rest r =
     let room : 13 ≤ length (siteNumbers t g ++ rest) = omega arith in
-    rw (le-ltb _ _ room, mod-eq-of-lt (r .chrom), mod-eq-of-lt (r .pos), mod-eq-of-lt (r .rlen), mod-eq-of-lt (r .qual), mod-eq-of-lt (r .alleles), mod-eq-of-lt (r .infos), mod-eq-of-lt (r .formats), mod-eq-of-lt (r .people))
+    rw (le-ltb _ _ room, mod-eq-of-lt (r .chrom), mod-eq-of-lt (posBits-bound (t .pos) (r .pos)), posOf-posBits (t .pos) (r .pos), mod-eq-of-lt (r .rlen), mod-eq-of-lt (r .qual), mod-eq-of-lt (r .alleles), mod-eq-of-lt (r .infos), mod-eq-of-lt (r .formats), mod-eq-of-lt (r .people))
 
 -- a fixed field is a number of four bytes, and a count is a part of one
 site-ranges : (f : Facts) (s : List ℕ) (t : Site) (g : Gt) → Bytes s → reading f s ≡ Accepted t g → SiteRanges t
@@ -77,7 +78,7 @@ site-ranges f s t g b h =
     let members = field-bound peopleAt s b (omega arith) in
     record {
       chrom = rw (fits .chrom) at (field-bound chromAt s b (omega arith));
-      pos = rw (fits .pos) at (field-bound posAt s b (omega arith));
+      pos = rw (fits .pos) at (posOf-fits (field posAt s) (field-bound posAt s b (omega arith)));
       rlen = rw (fits .rlen) at (field-bound rlenAt s b (omega arith));
       qual = rw (fits .qual) at (field-bound qualAt s b (omega arith));
       alleles = omega (arith, counts, fits .alleles);

@@ -11,6 +11,7 @@ use Rattle.types.specs.Elements.{marked, kind, widened, shown, narrowest}
 use Rattle.values.specs.Values.{integer, trueLength, keyed, mayStand, described, present}
 use Rattle.vectors.specs.Vectors.{numbers, shownNumbers, vector, vectors, judged, elementsOf}
 use Rattle.vectors.specs.Sound.{highest, codeMost, sound}
+use Rattle.positions.specs.Positions.{posOf, posBits}
 use Rattle.fixed.specs.Layout.{mostBytes, field, posWrong, peopleWrong, qualWrong}
 use Rattle.fixed.specs.Fixed.{blocks, wrongAt, siteAt, fixed}
 use Rattle.site.specs.Steps.{times}
@@ -74,7 +75,7 @@ tight : Tight facts (withOnes bareSite bareSample)
 tight = rw (ones, ← empty-bytes) (keeps-tight facts emptyShown empty-keeps)
 
 pub bare-sample : BareSample
-unfolding bareSample among le number bytes outside rowOf widthOf marked kind widened shown integer trueLength keyed mayStand described present numbers shownNumbers vector vectors judged highest codeMost sound field posWrong peopleWrong qualWrong blocks wrongAt siteAt fixed times alleleBytes allele filters filtered filter info site roleOf gtNow formats siteOf genotypesOf reading elementsOf flatten elementsAt shownOf alone paired fieldsOf siteKinds siteFields genotypeFields account ofKind numbered fieldOf found fetched pairIn pairAt opened callsOf tallied chosenParts chosenFields chosenBlock chosenSite chosenRecord
+unfolding bareSample among le number bytes outside rowOf widthOf marked kind widened shown integer trueLength keyed mayStand described present numbers shownNumbers vector vectors judged highest codeMost sound field posWrong peopleWrong qualWrong blocks wrongAt posOf posBits siteAt fixed times alleleBytes allele filters filtered filter info site roleOf gtNow formats siteOf genotypesOf reading elementsOf flatten elementsAt shownOf alone paired fieldsOf siteKinds siteFields genotypeFields account ofKind numbered fieldOf found fetched pairIn pairAt opened callsOf tallied chosenParts chosenFields chosenBlock chosenSite chosenRecord
 bare-sample =
     record {
       read = refl;

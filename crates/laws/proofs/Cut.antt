@@ -11,6 +11,7 @@ use Rattle.types.specs.Elements.{marked, kind, widened, shown}
 use Rattle.values.specs.Values.{integer, trueLength, keyed, mayStand, described, present}
 use Rattle.vectors.specs.Vectors.{numbers, shownNumbers, vector, vectors, judged}
 use Rattle.vectors.specs.Sound.{highest, codeMost, sound}
+use Rattle.positions.specs.Positions.{posOf, posBits}
 use Rattle.fixed.specs.Layout.{field, posWrong, peopleWrong, qualWrong}
 use Rattle.fixed.specs.Fixed.{blocks, wrongAt, siteAt, fixed}
 use Rattle.site.specs.Steps.{times}
@@ -40,7 +41,7 @@ two = record { first = refl; second = refl; once = λ p h. once p h }
     once (suc (suc p)) h = absurd (omega arith)
 
 pub sample-cut : Cut
-unfolding sample second among le number bytes outside rowOf widthOf marked kind widened shown integer trueLength keyed mayStand described present numbers shownNumbers vector vectors judged highest codeMost sound field posWrong peopleWrong qualWrong blocks wrongAt siteAt fixed times alleleBytes allele filters filtered filter info site roleOf gtNow formats siteOf genotypesOf reading paired alone fieldsOf siteKinds siteFields genotypeFields account ofKind numbered fieldOf found fetched slots alleleOf alleles people called without howMany counters peopleTally peopleOf counted callsOf tallied ascendingFrom chosenParts chosenFields chosenBlock chosenSite chosenRecord choosing
+unfolding sample second among le number bytes outside rowOf widthOf marked kind widened shown integer trueLength keyed mayStand described present numbers shownNumbers vector vectors judged highest codeMost sound field posWrong peopleWrong qualWrong blocks wrongAt posOf posBits siteAt fixed times alleleBytes allele filters filtered filter info site roleOf gtNow formats siteOf genotypesOf reading paired alone fieldsOf siteKinds siteFields genotypeFields account ofKind numbered fieldOf found fetched slots alleleOf alleles people called without howMany counters peopleTally peopleOf counted callsOf tallied ascendingFrom chosenParts chosenFields chosenBlock chosenSite chosenRecord choosing
 sample-cut =
     record {
       bytes = refl;

@@ -11,6 +11,7 @@ use Rattle.types.specs.Elements.{marked, kind, widened, shown, narrowest}
 use Rattle.values.specs.Values.{integer, trueLength, keyed, mayStand, described, present}
 use Rattle.vectors.specs.Vectors.{numbers, shownNumbers, vector, vectors, judged, elementsOf}
 use Rattle.vectors.specs.Sound.{highest, codeMost, sound}
+use Rattle.positions.specs.Positions.{posOf, posBits}
 use Rattle.fixed.specs.Layout.{field, posWrong, peopleWrong, qualWrong, mostBytes}
 use Rattle.fixed.specs.Fixed.{blocks, wrongAt, siteAt, fixed}
 use Rattle.site.specs.Steps.{times}
@@ -106,5 +107,5 @@ sample-keeps =
     short = omega arith
 
 pub sample-read : Sample
-unfolding sample among le number outside rowOf widthOf marked kind widened shown integer trueLength keyed mayStand described present numbers shownNumbers vector vectors judged highest codeMost sound field posWrong peopleWrong qualWrong blocks wrongAt siteAt fixed times alleleBytes allele filters filtered filter info site roleOf gtNow formats siteOf genotypesOf reading elementsOf flatten elementsAt alone paired fieldsOf siteKinds siteFields genotypeFields account ofKind shownOf slots alleleOf alleles people called without howMany counters peopleTally peopleOf counted callsOf tallied inDecimal decimal spaced callNumbers acceptedLine recordLine
+unfolding sample among le number outside rowOf widthOf marked kind widened shown integer trueLength keyed mayStand described present numbers shownNumbers vector vectors judged highest codeMost sound field posWrong peopleWrong qualWrong blocks wrongAt posOf posBits siteAt fixed times alleleBytes allele filters filtered filter info site roleOf gtNow formats siteOf genotypesOf reading elementsOf flatten elementsAt alone paired fieldsOf siteKinds siteFields genotypeFields account ofKind shownOf slots alleleOf alleles people called without howMany counters peopleTally peopleOf counted callsOf tallied inDecimal decimal spaced callNumbers acceptedLine recordLine
 sample-read = record { read = refl; shows = refl; built = sample-bytes; tight = rw sample-bytes at (keeps-tight facts sampleShown sample-keeps); tally = refl; line = refl }

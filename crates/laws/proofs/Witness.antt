@@ -14,6 +14,7 @@ use Rattle.types.specs.Elements.{marked, kind, widened, shown}
 use Rattle.values.specs.Values.{integer, trueLength, keyed, mayStand, described, present}
 use Rattle.vectors.specs.Vectors.{numbers, shownNumbers, vector, vectors, judged}
 use Rattle.vectors.specs.Sound.{highest, codeMost, sound}
+use Rattle.positions.specs.Positions.{posOf}
 use Rattle.fixed.specs.Layout.{field, posWrong, peopleWrong, qualWrong}
 use Rattle.fixed.specs.Fixed.{blocks, wrongAt, siteAt, fixed}
 use Rattle.site.specs.Steps.{times}
@@ -51,5 +52,5 @@ three = record { first = refl; second = refl; once = λ p h. once p h }
     once (suc (suc (suc p))) h = absurd (omega arith)
 
 pub witnessed : Witness
-unfolding witness areBytes among le number outside rowOf widthOf marked kind widened shown integer trueLength keyed mayStand described present numbers shownNumbers vector vectors judged highest codeMost sound field posWrong peopleWrong qualWrong blocks wrongAt siteAt fixed times alleleBytes allele filters filtered filter info site roleOf gtNow formats siteOf genotypesOf reading ascendingFrom
+unfolding witness posOf areBytes among le number outside rowOf widthOf marked kind widened shown integer trueLength keyed mayStand described present numbers shownNumbers vector vectors judged highest codeMost sound field posWrong peopleWrong qualWrong blocks wrongAt siteAt fixed times alleleBytes allele filters filtered filter info site roleOf gtNow formats siteOf genotypesOf reading ascendingFrom
 witnessed = record { bytes = bytes-tested witness refl; read = refl; few = omega arith; chosen = refl; divided = three }

@@ -7,6 +7,8 @@ use mathlib.Core.Path.{_≡_}
 use mathlib.Core.List.{List, _++_}
 use lib.ListN.{length}
 use denote.Ref.{RefT, now}
+use mir.Syntax.{w32}
+use mir.Val.{SFits}
 use Rattle.words.specs.Words.{Bytes}
 use Rattle.values.specs.Answers.{refusal, refuses, refusalIn}
 use Rattle.values.specs.declared.Refusal.{Refusal}
@@ -39,7 +41,7 @@ pub record Ranges (st : Builder) : Type 0 where
 -- so are those of a site; its length and border are whatever they are
 pub record SiteRanges (t : Site) : Type 0 where
   pub chrom : t .chrom < 4294967296
-  pub pos : t .pos < 4294967296
+  pub pos : SFits w32 (t .pos .0)
   pub rlen : t .rlen < 4294967296
   pub qual : t .qual < 4294967296
   pub alleles : t .alleles < 65536

@@ -5,6 +5,7 @@ use mathlib.Core.List.{List, [], _∷_, _++_}
 use Prim.Native.Nat.{ℕ}
 use lib.ListN.{replicate}
 use Rattle.facts.specs.declared.Facts.{Facts}
+use Rattle.positions.specs.Positions.{posOf}
 use Rattle.fixed.specs.declared.Site.{Site}
 use Rattle.genotypes.specs.Formats.{gtAt}
 use Rattle.record.specs.Reading.{reading}
@@ -41,7 +42,7 @@ siteTo border length =
       length = length;
       border = border;
       chrom = 0;
-      pos = 0x3821;
+      pos = posOf 0x3821;
       rlen = 1;
       qual = 0x41E80000;
       alleles = 2;

@@ -7,6 +7,7 @@ use mathlib.Core.Bool.{true}
 use mathlib.Core.List.{List, [], _∷_, _++_}
 use Rattle.words.specs.Words.{Bytes}
 use Rattle.facts.specs.declared.Facts.{Facts}
+use Rattle.positions.specs.Positions.{posOf}
 use Rattle.fixed.specs.declared.Site.{Site}
 use Rattle.genotypes.specs.Formats.{gtAt}
 use Rattle.record.specs.Reading.{reading}
@@ -66,7 +67,7 @@ witness =
 
 abbrev pub witnessSite : Site
 witnessSite =
-    record { length = 155; border = 89; chrom = 1; pos = 99; rlen = 2; qual = 0x41F00000; alleles = 2; infos = 5; formats = 5; people = 3 }
+    record { length = 155; border = 89; chrom = 1; pos = posOf 99; rlen = 2; qual = 0x41F00000; alleles = 2; infos = 5; formats = 5; people = 3 }
 
 pub record Witness : Type 0 where
   pub bytes : Bytes witness

@@ -1,4 +1,4 @@
--- Each conversion of positions undoes the other, and is exactly one more or one less on every position there is.
+-- Each conversion of positions undoes the other, to VCF and back as to bits and back, and is exactly one more or one less on every position there is.
 -- Rests on specs/Positions.
 use mathlib.Core.Path.{_≡_, refl, _∙_, ap}
 use Prim.Native.Nat.{ℕ, _+_, _-_, _%_, _^_, _<_}
@@ -7,7 +7,8 @@ use lib.IntN.{ℤ, pos, negsuc}
 use mir.Syntax.{w32}
 use mir.Facts.{toZ-ofZ, ofZ-toZ, fits-ofZ, sfits-toZ, toZ-pos}
 use mir.Val.{toZ, ofZ, SFits, Fits}
-use Rattle.positions.specs.Positions.{oneBased, zeroBased}
+use Rattle.positions.specs.Positions.{posOf, posBits, oneBased, zeroBased}
+use Rattle.positions.specs.declared.BcfPosition.{BcfPosition}
 
 -- a position through its bits: k more, in 32 bits
 pub steps : (k : ℕ) {z r : ℤ} {b s : ℕ} → SFits w32 z → b ≡ ofZ w32 (toZ w32 (ofZ w32 z)) → s ≡ (b + k) % 2 ^ 32 → r ≡ toZ w32 s
@@ -18,6 +19,23 @@ steps k {z} {r} {b} {s} f e q u =
     rw (u, toZ-ofZ {w = w32} {z = toZ w32 s} (sfits-toZ {w = w32} {n = s} (record { fits = h })), q, v)
 
 -- there and back
+pub posBits-posOf : (b : ℕ) → b < 2 ^ 32 → posBits (posOf b) ≡ b
+unfolding posBits posOf
+posBits-posOf b h = ofZ-toZ {w = w32} (record { fits = h })
+
+-- a position has 32 bits, and 32 bits are a position
+pub posBits-bound : (p : BcfPosition) → SFits w32 (p .0) → posBits p < 2 ^ 32
+unfolding posBits
+posBits-bound p f = fits-ofZ {w = w32} {z = p .0} f .fits
+
+pub posOf-fits : (b : ℕ) → b < 2 ^ 32 → SFits w32 (posOf b .0)
+unfolding posOf
+posOf-fits b h = sfits-toZ {w = w32} {n = b} (record { fits = h })
+
+pub posOf-posBits : (p : BcfPosition) → SFits w32 (p .0) → posOf (posBits p) ≡ p
+unfolding posBits posOf
+posOf-posBits p f = rw (toZ-ofZ {w = w32} {z = p .0} f)
+
 pub zero-one : (z : ℤ) → SFits w32 z → zeroBased (oneBased z) ≡ z
 unfolding oneBased zeroBased
 zero-one z f =

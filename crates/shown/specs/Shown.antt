@@ -27,6 +27,7 @@ pub record Field : Type 0 where
   pub len : ℕ
   pub value : Elements
 
+-- a record: CHROM, POS and rlen as the 32 bits of their signed numbers (POS by `posBits` of positions), QUAL as its bits; then what the fields show
 pub record Shown : Type 0 where
   pub chrom : ℕ
   pub pos : ℕ

@@ -45,20 +45,20 @@ pub fn compare_read(report: &mut Report, input: &Input) -> Answer<sikalumdo::Sit
 }
 
 #[rustfmt::skip]
-fn sikalumdo_numbers(site: &sikalumdo::Site) -> [i64; 13] {
+fn sikalumdo_numbers(site: &sikalumdo::Site) -> [i64; 14] {
     [
         site.length.into(), site.border.into(), site.chrom.into(), site.pos.into(), site.rlen.into(),
         site.qual_bits.into(), site.alleles.into(), site.infos.into(), site.formats.into(), site.people.into(),
-        site.gt_type.into(), site.gt_len.into(), site.gt_place.into(),
+        site.gt_type.into(), site.gt_len.into(), site.gt_place.into(), site.vcf_pos().into(),
     ]
 }
 
 #[rustfmt::skip]
-fn plain_numbers(site: &plain::Site) -> [i64; 13] {
+fn plain_numbers(site: &plain::Site) -> [i64; 14] {
     [
         site.length.into(), site.border.into(), site.contig.into(), site.pos.into(), site.rlen.into(),
         site.qual_bits.into(), site.alleles.into(), site.infos.into(), site.formats.into(), site.people.into(),
-        site.gt_type.into(), site.gt_len.into(), site.gt_first.into(),
+        site.gt_type.into(), site.gt_len.into(), site.gt_first.into(), i64::from(site.pos) + 1,
     ]
 }
 

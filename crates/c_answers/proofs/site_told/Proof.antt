@@ -7,11 +7,12 @@ use Rattle.c_answers.proofs.site_told.Tie as tie
 use Rattle.c_answers.proofs.site_told.Reads as reads
 use Rattle.c_answers.proofs.site_told.Lts as lts
 use Rattle.c_answers.proofs.empty_site.Reads as empty-site-reads
+use Rattle.positions.proofs.from_bits.Reads as from-bits-reads
 
 empty-site-requires : tie.Need-empty-site-requires
 empty-site-requires c κs = search needs
 
--- fill: e91320ba
+-- fill: 32e10293
 returns : tie.Need-returns
 unfolding siteTold
 returns c = simp (lt-ltb _ _ (c .before .if1 .taken), c .empty-site .ensures)
@@ -28,53 +29,59 @@ shared-slice-read-t10 c = search needs
 cast-t12 : tie.Need-cast-t12
 cast-t12 c = search needs
 
-shared-slice-read-t14 : tie.Need-shared-slice-read-t14
-shared-slice-read-t14 c = search needs
+shared-slice-read-from-bits : tie.Need-shared-slice-read-from-bits
+shared-slice-read-from-bits c = search needs
 
-cast-t16 : tie.Need-cast-t16
-cast-t16 c = search needs
+cast-from-bits : tie.Need-cast-from-bits
+cast-from-bits c = search needs
 
-shared-slice-read-t18 : tie.Need-shared-slice-read-t18
-shared-slice-read-t18 c = search needs
+from-bits-requires : tie.Need-from-bits-requires
+from-bits-requires c κs = search needs
 
-cast-t20 : tie.Need-cast-t20
-cast-t20 c = search needs
+shared-slice-read-t19 : tie.Need-shared-slice-read-t19
+shared-slice-read-t19 c = search needs
 
-shared-slice-read-t22 : tie.Need-shared-slice-read-t22
-shared-slice-read-t22 c = search needs
+cast-t21 : tie.Need-cast-t21
+cast-t21 c = search needs
 
-cast-t24 : tie.Need-cast-t24
-cast-t24 c = search needs
+shared-slice-read-t23 : tie.Need-shared-slice-read-t23
+shared-slice-read-t23 c = search needs
 
-shared-slice-read-t26 : tie.Need-shared-slice-read-t26
-shared-slice-read-t26 c = search needs
+cast-t25 : tie.Need-cast-t25
+cast-t25 c = search needs
 
-cast-t28 : tie.Need-cast-t28
-cast-t28 c = search needs
+shared-slice-read-t27 : tie.Need-shared-slice-read-t27
+shared-slice-read-t27 c = search needs
 
-shared-slice-read-t30 : tie.Need-shared-slice-read-t30
-shared-slice-read-t30 c = search needs
+cast-t29 : tie.Need-cast-t29
+cast-t29 c = search needs
 
-cast-t32 : tie.Need-cast-t32
-cast-t32 c = search needs
+shared-slice-read-t31 : tie.Need-shared-slice-read-t31
+shared-slice-read-t31 c = search needs
 
-shared-slice-read-t34 : tie.Need-shared-slice-read-t34
-shared-slice-read-t34 c = search needs
+cast-t33 : tie.Need-cast-t33
+cast-t33 c = search needs
 
-cast-t36 : tie.Need-cast-t36
-cast-t36 c = search needs
+shared-slice-read-t35 : tie.Need-shared-slice-read-t35
+shared-slice-read-t35 c = search needs
 
-shared-slice-read-t38 : tie.Need-shared-slice-read-t38
-shared-slice-read-t38 c = search needs
+cast-t37 : tie.Need-cast-t37
+cast-t37 c = search needs
 
-cast-t40 : tie.Need-cast-t40
-cast-t40 c = search needs
+shared-slice-read-t39 : tie.Need-shared-slice-read-t39
+shared-slice-read-t39 c = search needs
 
--- fill: fb2bd92a
+cast-t41 : tie.Need-cast-t41
+cast-t41 c = search needs
+
+-- fill: 8abdeefb
 returns-2 : tie.Need-returns-2
 unfolding siteTold
 returns-2 c =
-    simp (le-ltb _ _ (c .before .before .before .before .before .before .before .before .before .before .if1 .left))
+    simp (
+      le-ltb _ _ (c .before .before .before .before .before .before .before .before .before .before .before .if1 .left),
+      ← c .before .before .before .before .before .before .from-bits .ensures,
+    )
 
 pub site-told-spec : {M : Type 1} → statement M
 site-told-spec =
@@ -86,18 +93,19 @@ site-told-spec =
     shared-slice-read-t7
     shared-slice-read-t10
     cast-t12
-    shared-slice-read-t14
-    cast-t16
-    shared-slice-read-t18
-    cast-t20
-    shared-slice-read-t22
-    cast-t24
-    shared-slice-read-t26
-    cast-t28
-    shared-slice-read-t30
-    cast-t32
-    shared-slice-read-t34
-    cast-t36
-    shared-slice-read-t38
-    cast-t40
+    shared-slice-read-from-bits
+    cast-from-bits
+    from-bits-requires
+    shared-slice-read-t19
+    cast-t21
+    shared-slice-read-t23
+    cast-t25
+    shared-slice-read-t27
+    cast-t29
+    shared-slice-read-t31
+    cast-t33
+    shared-slice-read-t35
+    cast-t37
+    shared-slice-read-t39
+    cast-t41
     returns-2)

@@ -8,9 +8,10 @@ use Rattle.c_answers.proofs.tell_reading.Statement.{statement}
 use Rattle.c_answers.proofs.tell_reading.Tie as tie
 use Rattle.c_answers.proofs.tell_reading.Reads as reads
 use Rattle.c_answers.proofs.tell_reading.Lts as lts
-use Rattle.record.proofs.reading_refusal.Reads as reading-refusal-reads
 use Rattle.c_answers.proofs.refused_answer.Reads as refused-answer-reads
 use Rattle.c_answers.proofs.tell.Reads as tell-reads
+use Rattle.positions.proofs.to_bits.Reads as to-bits-reads
+use Rattle.record.proofs.reading_refusal.Reads as reading-refusal-reads
 
 enum-known-r : tie.Need-enum-known-r
 enum-known-r c = search needs
@@ -29,8 +30,8 @@ returns c =
     let e = c .before .before .enum-told .given .1 in
     (rw e (c .refused-answer .ensures ∙ ap refusedAnswer (c .before .reading-refusal .ensures ∙ ap (λ r. refusalIn (readingSays r)) e)), rw e)
 
-cast-t9 : tie.Need-cast-t9
-cast-t9 c = search needs
+to-bits-requires : tie.Need-to-bits-requires
+to-bits-requires c κs = search needs
 
 cast-t10 : tie.Need-cast-t10
 cast-t10 c = search needs
@@ -51,14 +52,17 @@ cast-t15 : tie.Need-cast-t15
 cast-t15 c = search needs
 
 cast-t16 : tie.Need-cast-t16
-cast-t16 c =
-    search (needs, c .struct-known8 .given .1 .1 .1 .1 .1 .1 .1 .1 .1 .0)
+cast-t16 c = search needs
 
 cast-t17 : tie.Need-cast-t17
-cast-t17 c = search needs
+cast-t17 c =
+    search (needs, c .struct-known7 .given .1 .1 .1 .1 .1 .1 .1 .1 .1 .0)
 
 cast-t18 : tie.Need-cast-t18
 cast-t18 c = search needs
+
+cast-t19 : tie.Need-cast-t19
+cast-t19 c = search needs
 
 slice-aggregate-tell : tie.Need-slice-aggregate-tell
 slice-aggregate-tell c = search needs
@@ -71,7 +75,10 @@ same-length c = search needs
 
 returns-2 : tie.Need-returns-2
 returns-2 c =
-    (rw (c .before .before .before .before .before .before .before .before .before .before .before .before .before .before .before .before .r .given .1) (c .before .before .tell .ensures .0), rw (c .before .before .before .before .before .before .before .before .before .before .before .before .before .before .before .before .r .given .1) (c .before .before .tell .ensures .1))
+    let site = c .before .before .before .before .before .before .before .before .before .before .before .before .before .before .before .before .r .given .1 in
+    let pos = c .before .before .before .before .before .before .before .before .before .before .before .before .before .before .to-bits .ensures in
+    let told = c .before .before .tell .ensures in
+    (rw (site, ← pos) (told .0), rw (site, ← pos) (told .1))
 
 pub tell-reading-spec : {M : Type 1} → statement M
 tell-reading-spec =
@@ -82,7 +89,7 @@ tell-reading-spec =
     reading-refusal-requires
     refused-answer-requires
     returns
-    cast-t9
+    to-bits-requires
     cast-t10
     cast-t11
     cast-t12
@@ -92,6 +99,7 @@ tell-reading-spec =
     cast-t16
     cast-t17
     cast-t18
+    cast-t19
     slice-aggregate-tell
     tell-requires
     same-length

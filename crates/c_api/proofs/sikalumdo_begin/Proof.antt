@@ -4,6 +4,7 @@ use lib.ListN.{length}
 use mir.Syntax.{w32}
 use mir.Val.{ofZ}
 use Rattle.words.proofs.Sign.{back}
+use Rattle.positions.specs.Positions.{posBits}
 use Rattle.c_api.specs.Given.{factsGiven}
 use Rattle.build.specs.declared.Builder.{Builder}
 use Rattle.build.specs.Turns.{begun, afterBegin}
@@ -33,6 +34,7 @@ same-length-2 : tie.Need-same-length-2
 same-length-2 c = search needs
 
 returns : tie.Need-returns
+unfolding posBits
 returns c =
     let a = c .before .before .before .before .before .before .before .before .before .before .before .before .args in
     let f = c .before .before .before .before .before .before .before .before .before .before .before .before .fits in

@@ -6,6 +6,7 @@ use Rattle.fixed.proofs.site_at.Tie as tie
 use Rattle.fixed.proofs.site_at.Reads as reads
 use Rattle.fixed.proofs.site_at.Lts as lts
 use Rattle.fixed.proofs.field_at.Reads as field-at-reads
+use Rattle.positions.proofs.from_bits.Reads as from-bits-reads
 
 field-at-requires : tie.Need-field-at-requires
 field-at-requires c κs = search needs
@@ -19,30 +20,34 @@ field-at-requires-3 c κs = search needs
 field-at-requires-4 : tie.Need-field-at-requires-4
 field-at-requires-4 c κs = search needs
 
+from-bits-requires : tie.Need-from-bits-requires
+from-bits-requires c κs = search needs
+
 field-at-requires-5 : tie.Need-field-at-requires-5
 field-at-requires-5 c κs = search needs
 
 field-at-requires-6 : tie.Need-field-at-requires-6
 field-at-requires-6 c κs = search needs
 
-cast-t11 : tie.Need-cast-t11
-cast-t11 c = search needs
+cast-t12 : tie.Need-cast-t12
+cast-t12 c = search needs
 
-cast-t13 : tie.Need-cast-t13
-cast-t13 c = search needs
+cast-t14 : tie.Need-cast-t14
+cast-t14 c = search needs
 
-cast-t15 : tie.Need-cast-t15
-cast-t15 c = search needs
+cast-t16 : tie.Need-cast-t16
+cast-t16 c = search needs
 
--- fill: 9e6c73a0
+-- fill: 2077877c
 returns : tie.Need-returns
 unfolding siteAt
 returns c =
     simp (
-      ← c .before .before .before .before .before .field-at .ensures,
-      ← c .before .before .before .before .field-at2 .ensures,
-      ← c .before .before .before .field-at3 .ensures,
-      ← c .before .before .field-at4 .ensures,
+      ← c .before .before .before .before .before .before .field-at .ensures,
+      ← c .before .before .before .before .before .field-at2 .ensures,
+      ← c .before .before .before .before .field-at3 .ensures,
+      ← c .before .before .before .field-at4 .ensures,
+      ← c .before .before .from-bits .ensures,
       ← c .before .field-at5 .ensures,
       c .field-at6 .ensures,
     )
@@ -55,9 +60,10 @@ site-at-spec =
     field-at-requires-2
     field-at-requires-3
     field-at-requires-4
+    from-bits-requires
     field-at-requires-5
     field-at-requires-6
-    cast-t11
-    cast-t13
-    cast-t15
+    cast-t12
+    cast-t14
+    cast-t16
     returns)
