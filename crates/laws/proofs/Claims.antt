@@ -6,6 +6,7 @@ use Rattle.laws.proofs.Bare.{bare}
 use Rattle.laws.proofs.Building.{building}
 use Rattle.laws.proofs.Choosing.{choosing-people}
 use Rattle.laws.proofs.Marked.{examples}
+use Rattle.laws.proofs.Reading.{readings}
 use Rattle.laws.proofs.Tallying.{tallying}
 use Rattle.laws.proofs.Tightening.{tightening}
 use Rattle.laws.proofs.Witness.{witnessed}
@@ -13,6 +14,7 @@ use Rattle.laws.proofs.Witness.{witnessed}
 pub claims : Claims
 claims =
     record {
+      reading = readings;
       building = building;
       tightening = tightening;
       choosing = choosing-people;

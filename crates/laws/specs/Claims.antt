@@ -7,11 +7,15 @@ use Rattle.laws.specs.Bare.{Bare}
 use Rattle.laws.specs.Building.{Building}
 use Rattle.laws.specs.Choosing.{ChoosingPeople}
 use Rattle.laws.specs.Marked.{Marked}
+use Rattle.laws.specs.Reading.{Readings}
 use Rattle.laws.specs.Tallying.{Tallying}
 use Rattle.laws.specs.Tightening.{Tightening}
 use Rattle.laws.specs.Witness.{Witness}
 
 pub record Claims : Type 1 where
+  -- demand 2, reading: what is told are the bytes there, what an accepted record shows is what is fetched and keeps each of 01's rules, its blocks are
+  -- filled to their last byte, and bytes after it make no difference
+  pub reading : Readings
   -- demand 2, building: what was built reads back as given, what keeps the rules is never refused, and a tight record built again is the same bytes
   pub building : Building
   -- and every accepted record builds again, to a tight record that shows the same and is no longer

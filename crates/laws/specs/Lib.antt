@@ -5,6 +5,7 @@ pub mod Bare
 pub mod Building
 pub mod Choosing
 pub mod Marked
+pub mod Reading
 pub mod Tallying
 pub mod Tightening
 pub mod Witness

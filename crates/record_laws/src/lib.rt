@@ -1,0 +1,1 @@
+// What holds of reading and of what an accepted record shows: no code.
