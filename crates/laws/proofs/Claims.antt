@@ -7,6 +7,7 @@ use Rattle.laws.proofs.Building.{building}
 use Rattle.laws.proofs.Choosing.{choosing-people}
 use Rattle.laws.proofs.Marked.{examples}
 use Rattle.laws.proofs.Reading.{readings}
+use Rattle.laws.proofs.Refusals.{refusals}
 use Rattle.laws.proofs.Tallying.{tallying}
 use Rattle.laws.proofs.Tightening.{tightening}
 use Rattle.laws.proofs.Witness.{witnessed}
@@ -14,6 +15,7 @@ use Rattle.laws.proofs.Witness.{witnessed}
 pub claims : Claims
 claims =
     record {
+      refusals = refusals;
       reading = readings;
       building = building;
       tightening = tightening;

@@ -8,11 +8,14 @@ use Rattle.laws.specs.Building.{Building}
 use Rattle.laws.specs.Choosing.{ChoosingPeople}
 use Rattle.laws.specs.Marked.{Marked}
 use Rattle.laws.specs.Reading.{Readings}
+use Rattle.laws.specs.Refusals.{Refusals}
 use Rattle.laws.specs.Tallying.{Tallying}
 use Rattle.laws.specs.Tightening.{Tightening}
 use Rattle.laws.specs.Witness.{Witness}
 
 pub record Claims : Type 1 where
+  -- demand 1: a refusal has a number that 01 lists for its function, at place 0 or at a place of the record, and leaves what was lent as it was
+  pub refusals : Refusals
   -- demand 2, reading: what is told are the bytes there, what an accepted record shows is what is fetched and keeps each of 01's rules, its blocks are
   -- filled to their last byte, and bytes after it make no difference
   pub reading : Readings

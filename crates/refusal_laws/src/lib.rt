@@ -1,0 +1,1 @@
+// What holds of refusals: no code.
