@@ -1,7 +1,7 @@
 -- The laws of reading, proved: each cites the file that has its proof. Rests on specs/Reading.
 use Rattle.contents.proofs.Fetched.{shown-fetched}
 use Rattle.record_laws.proofs.After.{after-record, own-record, found-after, shown-after}
-use Rattle.record_laws.proofs.Filled.{accepted-told, accepted-filled}
+use Rattle.record_laws.proofs.Told.{accepted-told, accepted-filled}
 use Rattle.record_laws.proofs.Rules.{accepted-rules}
 use Rattle.laws.specs.Reading.{Readings}
 

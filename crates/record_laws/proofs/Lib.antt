@@ -1,4 +1,4 @@
 pub mod After
-pub mod Filled
 pub mod Rules
+pub mod Told
 pub mod Vectors
