@@ -19,7 +19,7 @@ use Rattle.values.specs.declared.Value.{Value}
 use Rattle.values.specs.declared.Value.the-variants.{Present, Refused as NoValue}
 use Rattle.facts.specs.declared.Facts.{Facts}
 use Rattle.fixed.specs.declared.Site.{Site}
-use Rattle.genotypes.specs.Formats.{formats, gtNow, gtAt, noGt}
+use Rattle.genotypes.specs.Formats.{formatField, soMany, formats, gtNow, gtAt, noGt}
 use Rattle.genotypes.specs.declared.Gt.{Gt}
 use Rattle.genotypes.specs.declared.Genotypes.the-variants.{Sound}
 use Rattle.record.specs.Reading.{genotypesOf, reading}
@@ -140,7 +140,7 @@ gt-after key gt x known a b = by-key (eqb key gt)
 
 formats-empty : (strings people gt alleles n : ℕ) (earlier : List ℕ) (known : Gt) (at : ℕ) (l : List ℕ) (g : Gt) → (known .code ≡ 0 → known .len ≡ 0)
     → formats strings people gt alleles n earlier known at l ≡ Sound g → g .code ≡ 0 → g .len ≡ 0
-unfolding formats
+unfolding formatField soMany formats
 formats-empty strings people gt alleles zero earlier known at [] g k h e = let same : known ≡ g = cc in rw same at (k (rw same e))
 formats-empty strings people gt alleles zero earlier known at (b ∷ rest) g k h e = cc
 formats-empty strings people gt alleles (suc n) earlier known at l g k h e =

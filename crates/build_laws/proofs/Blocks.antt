@@ -17,9 +17,10 @@ use Rattle.site.specs.Site.{info, site}
 use Rattle.site.specs.Steps.{times}
 use Rattle.site.specs.declared.Step.{Step}
 use Rattle.site.specs.declared.Step.the-variants.{At}
-use Rattle.genotypes.specs.Formats.{formats, roleOf, gtNow, gtAt}
+use Rattle.genotypes.specs.Formats.{formatField, soMany, formats, roleOf, gtNow, gtAt}
 use Rattle.genotypes.specs.declared.Gt.{Gt}
 use Rattle.genotypes.specs.declared.Genotypes.the-variants.{Sound}
+use Rattle.fetch.proofs.Inside.{drop-past}
 use Rattle.encode.specs.Encode.{integerBytes, descriptorBytes}
 use Rattle.shown.specs.Shown.{Shown, Kind, integers, floats, text, Field, isIntegers}
 use Rattle.shown.specs.Values.{writtenAs, givenBytes, pairBytes}
@@ -123,11 +124,14 @@ formats-field : (f : Facts) (alleles n : ℕ) (earlier : List ℕ) (known : Gt) 
     → KeepsField f alleles earlier x → length (formatBytes x) ≤ mostBytes
     → formats (f .strings) (f .people) (f .gt) alleles (suc n) earlier known at (formatBytes x ++ rest)
     ≡ formats (f .strings) (f .people) (f .gt) alleles n (earlier ++ (x .key ∷ [])) (gtAfter f known at x) (valueEnd at x) rest
-unfolding formats pairBytes
+unfolding formatField soMany formats pairBytes
 formats-field f alleles n earlier known at x rest p k h =
     let els = x .value .elements in
     let b = integerBytes (x .key) in
     let v = givenBytes (x .value .kind) (x .len) els in
+    let behind : drop (valueEnd at x - at) (b ++ (v ++ rest)) ≡ rest =
+    sym (drop-past (b ++ (v ++ rest)) at (valueFrom at x) (valueEnd at x) (omega arith) (omega arith))
+    ∙ ap (drop (valueEnd at x - valueFrom at x)) (drop-front at b (v ++ rest)) ∙ drop-front (valueFrom at x) v rest in
     rw (
       append-assoc b v rest,
       keyed-bytes (f .strings) at (x .key) (v ++ rest) (k .inside),
@@ -135,7 +139,7 @@ formats-field f alleles n earlier known at x rest p k h =
       drop-front at b (v ++ rest),
       sound-given (f .people) alleles (roleOf (x .key) (f .gt)) (valueFrom at x) (x .value .kind) (x .len) els rest
           (allowed-role (x .key) (f .gt) (x .value .kind) (k .whole)) (length-person f alleles earlier x p k h) (sym (k .count)) (k .fit) (k .rules),
-      drop-front (valueFrom at x) v rest,
+      behind,
     )
 
 -- the genotype block, with where GT stands
@@ -145,7 +149,7 @@ pub record Genotyped (f : Facts) (alleles : ℕ) (earlier : List ℕ) (known : G
 
 pub formats-bytes : (f : Facts) (alleles : ℕ) (earlier : List ℕ) (known : Gt) (at : ℕ) (xs : List Field) → (0 < length xs → 0 < f .people)
     → KeepsFields f alleles earlier xs → length (joined formatBytes xs) ≤ mostBytes → Genotyped f alleles earlier known at xs
-unfolding joined formats
+unfolding joined formatField soMany formats
 formats-bytes f alleles earlier known at [] p k h = record { gt = known; read = refl }
 formats-bytes f alleles earlier known at (x ∷ xs) p k h =
     let people : 0 < f .people = p (omega arith) in

@@ -15,7 +15,7 @@ use Rattle.types.specs.Rows.{widthOf}
 use Rattle.types.specs.declared.Use.the-variants.{Format}
 use Rattle.values.specs.declared.Value.the-variants.{Present}
 use Rattle.vectors.specs.Sound.{sound}
-use Rattle.genotypes.specs.Formats.{formats, roleOf, gtNow, gtAt, noGt}
+use Rattle.genotypes.specs.Formats.{formatField, soMany, formats, roleOf, gtNow, gtAt, noGt}
 use Rattle.genotypes.specs.declared.Gt.{Gt}
 use Rattle.genotypes.specs.declared.Genotypes.the-variants.{Sound}
 use Rattle.fetch.proofs.Inside.{drop-past}
@@ -43,7 +43,7 @@ formats-chosenField : (strings people gt alleles n : ℕ) (earlier : List ℕ) (
     (take (j .first - at) l ++ (chosenParts (j .len * widthOf (j .code)) cs (drop (j .first - at) l) ++ m))
     ≡ formats strings (length cs) gt alleles n (earlier ++ (j .key ∷ [])) (gtNow (j .key) gt (gtAt (j .code) (j .len) (at′ + (j .first - at))) known′)
     (at′ + (j .first - at) + length cs * j .len * widthOf (j .code)) m
-unfolding formats
+unfolding formatField soMany formats
 formats-chosenField strings people gt alleles n earlier known known′ at at′ l cs m {g} c j =
     let a = j .keyLater in
     let b = j .later in
@@ -69,7 +69,9 @@ formats-chosenField strings people gt alleles n earlier known known′ at at′ 
     let z : drop (stop′ - next′) rest ≡ m =
     ap (drop (stop′ - next′)) (sym (append-assoc (take (first - next) l1) els m)) ∙ drop-at (take (first - next) l1 ++ els) m (stop′ - next′)
     (rw (length-append, x, length-take-le (first - next) l1 (rw length-drop (omega arith))) (omega arith)) in
-    rw (split, keyed-front strings at at′ l rest (j .key) next (j .number), j .once, d, s, y, z)
+    let behind : drop (stop′ - at′) (take (next - at) l ++ rest) ≡ m =
+    sym (drop-past (take (next - at) l ++ rest) at′ next′ stop′ (omega arith) (omega arith)) ∙ ap (drop (stop′ - next′)) d ∙ z in
+    rw (split, keyed-front strings at at′ l rest (j .key) next (j .number), j .once, d, s, y, behind)
 
 -- GT in a record and in the chosen one: the same type and length, all elements there, and in the chosen one those of the chosen people
 pub record SameGt (people : ℕ) (cs s s′ : List ℕ) (g g′ : Gt) : Type 0 where
@@ -118,13 +120,13 @@ pub record Block (strings people gt alleles n : ℕ) (earlier : List ℕ) (known
 -- no field is left, and no byte
 pub formats-ended : (strings people gt alleles : ℕ) (earlier : List ℕ) (known : Gt) (at : ℕ) (l : List ℕ) {g : Gt}
     → formats strings people gt alleles zero earlier known at l ≡ Sound g → known ≡ g
-unfolding formats
+unfolding formatField soMany formats
 formats-ended strings people gt alleles earlier known at [] h = cc
 formats-ended strings people gt alleles earlier known at (b ∷ rest) h = cc
 
 pub formats-none : (strings people gt alleles : ℕ) (earlier : List ℕ) (known : Gt) (at : ℕ)
     → formats strings people gt alleles zero earlier known at [] ≡ Sound known
-unfolding formats
+unfolding formatField soMany formats
 formats-none strings people gt alleles earlier known at = refl
 
 -- a field, and then the block from its end on

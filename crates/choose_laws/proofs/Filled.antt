@@ -11,7 +11,7 @@ use Rattle.fixed.specs.Layout.{indivAt, peopleAt, idAt, membersOf, field}
 use Rattle.facts.specs.declared.Facts.{Facts}
 use Rattle.fixed.specs.declared.Site.{Site}
 use Rattle.fixed.proofs.Fits.{people-given}
-use Rattle.genotypes.specs.Formats.{formats, noneOver}
+use Rattle.genotypes.specs.Formats.{formatField, soMany, formats, noneOver}
 use Rattle.genotypes.specs.declared.Gt.{Gt}
 use Rattle.genotypes.specs.declared.Genotypes.the-variants.{Sound}
 use Rattle.record.specs.Reading.{reading, genotypesOf}
@@ -46,7 +46,7 @@ none-over known at (b ∷ rest) h = cc
 -- fields that reading judged sound are there, and fill their list
 formats-filled : (strings people gt alleles n : ℕ) (earlier : List ℕ) (known : Gt) (at : ℕ) (l : List ℕ) {g : Gt}
     → formats strings people gt alleles n earlier known at l ≡ Sound g → Filled people n at l
-unfolding formats
+unfolding formatField soMany formats
 formats-filled strings people gt alleles zero earlier known at l h = none-over known at l h
 formats-filled strings people gt alleles (suc n) earlier known at l h =
     let j = formats-field strings people gt alleles n earlier known at l h in

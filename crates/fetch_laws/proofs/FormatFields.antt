@@ -24,14 +24,14 @@ use Rattle.values.specs.declared.Value.the-variants.{Present, Refused as NoValu
 use Rattle.vectors.specs.Sound.{sound}
 use Rattle.site.specs.Steps.{times}
 use Rattle.site.specs.declared.Step.the-variants.{At}
-use Rattle.genotypes.specs.Formats.{formats, afterKey, afterValue, noGenotypes, roleOf, gtNow, gtAt, Rest}
+use Rattle.genotypes.specs.Formats.{withValue, afterKey, formatField, Before, Came, afterField, formatStep, andOn, soMany, allRead, formats, noField, roleOf, gtNow, gtAt}
 use Rattle.genotypes.specs.declared.Gt.{Gt}
 use Rattle.genotypes.specs.declared.Genotypes.the-variants.{Sound}
 use Rattle.fetch.specs.Fields.{valueField, pairField, paired}
 use Rattle.fetch.specs.Engine.{fieldStep, passing}
 use Rattle.fetch.specs.declared.Found.the-variants.{Field}
 use Rattle.fetch.specs.declared.Kind.the-variants.{Format}
-use Rattle.fetch.proofs.Inside.{keyed-inside, drop-past}
+use Rattle.fetch.proofs.Inside.{keyed-inside}
 use Rattle.fetch_laws.specs.InTurn.{formatValue, format}
 use Rattle.fetch_laws.proofs.Rows.{implied, each}
 use Rattle.fetch_laws.proofs.Agree.{sound-there, sound-past, value-passed}
@@ -138,15 +138,18 @@ pub record JudgedField (strings people gt alleles n : ℕ) (earlier : List ℕ) 
 -- the first field of a block that is sound
 pub formats-field : (strings people gt alleles n : ℕ) (earlier : List ℕ) (known : Gt) (at : ℕ) (l : List ℕ) {g : Gt}
     → formats strings people gt alleles (suc n) earlier known at l ≡ Sound g → JudgedField strings people gt alleles n earlier known at l g
-unfolding formats paired
+unfolding formatField soMany formats paired
 formats-field strings people gt alleles n earlier known at l {g} h = by-key (keyed strings at l) refl (keyed-inside strings at l) h
   where
-    rest : Rest
-    rest = formats strings people gt alleles n
+    before : Before
+    before = record { earlier = earlier; known = known; at = at; left = l }
+
+    rest : Before → Came
+    rest = soMany (formatStep strings people gt alleles) n
 
     by-value : (key next : ℕ) (c : Bool) (v : Value) → keyed strings at l ≡ One key next → at ≤ next → next ≤ at + length l
         → among key earlier ≡ c → sound people alleles (roleOf key gt) next (drop (next - at) l) ≡ v
-        → pick c (noGenotypes 11 (at + 1)) (afterValue key gt earlier known next (drop (next - at) l) rest v) ≡ Sound g
+        → allRead (andOn (afterField gt before (pick c (noField 11 (at + 1)) (withValue key v))) rest) ≡ Sound g
         → JudgedField strings people gt alleles n earlier known at l g
     by-value key next true v p a b q s e = let z : _≡_ {A = ℕ} 0 1 = cc in absurd (omega arith)
     by-value key next false (NoValue r) p a b q s e = let z : _≡_ {A = ℕ} 0 1 = cc in absurd (omega arith)
@@ -171,11 +174,11 @@ formats-field strings people gt alleles n earlier known at l {g} h = by-key (key
           keyLater = a;
           later = y;
           inside = omega arith;
-          on = rw (drop-past l at next stop a (omega arith)) at e;
+          on = e;
         }
 
-    by-key : (i : Integer) → keyed strings at l ≡ i → integerInside at (at + length l) i → afterKey people gt alleles earlier known at l rest i ≡ Sound g
-        → JudgedField strings people gt alleles n earlier known at l g
+    by-key : (i : Integer) → keyed strings at l ≡ i → integerInside at (at + length l) i
+        → allRead (andOn (afterField gt before (afterKey people gt alleles earlier at l i)) rest) ≡ Sound g → JudgedField strings people gt alleles n earlier known at l g
     by-key (NoInteger r) p k e = let z : _≡_ {A = ℕ} 0 1 = cc in absurd (omega arith)
     by-key (One key next) p k e =
         by-value key next (among key earlier) (sound people alleles (roleOf key gt) next (drop (next - at) l)) p (omega arith) (omega arith) refl refl e

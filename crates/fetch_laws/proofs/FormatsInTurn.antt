@@ -22,12 +22,12 @@ use Rattle.fixed.specs.declared.Site.{Site}
 use Rattle.site.specs.Steps.{then, noStep, ended}
 use Rattle.site.specs.declared.Step.{Step}
 use Rattle.site.specs.declared.Step.the-variants.{At, Refused as NoStep}
-use Rattle.genotypes.specs.Formats.{formats, noneOver, roleOf, gtNow, gtAt, noGt}
+use Rattle.genotypes.specs.Formats.{formatField, soMany, formats, noneOver, roleOf, gtNow, gtAt, noGt}
 use Rattle.genotypes.specs.declared.Gt.{Gt}
 use Rattle.fetch.specs.Fields.{paired}
 use Rattle.fetch.specs.Account.{fieldsOf}
 use Rattle.fetch.specs.declared.Kind.the-variants.{Format}
-use Rattle.fetch.proofs.Inside.{stepLater, keyed-inside, then-later, drop-past}
+use Rattle.fetch.proofs.Inside.{stepLater, keyed-inside, then-later}
 use Rattle.fetch_laws.specs.InTurn.{format, judging, keysOf, gtIn, unlessEarlier, formatsInTurn, withGt}
 use Rattle.fetch_laws.proofs.FormatFields.{format-there, keyed-integer}
 use Rattle.fetch_laws.proofs.Present.{present-typed}
@@ -60,7 +60,7 @@ none-told known at [] = refl
 none-told known at (b ∷ rest) = refl
 
 formats-told : (f : Facts) (t : Site) (n : ℕ) (earlier : List ℕ) (known : Gt) (at : ℕ) (l : List ℕ) → Told f t n earlier known at l
-unfolding formats formatsInTurn format fieldsOf paired
+unfolding formatField soMany formats formatsInTurn format fieldsOf paired
 formats-told f t zero earlier known at l = record { gt = known; told = rw (sub-self at) (none-told known at l) }
 formats-told f t (suc n) earlier known at l =
     by-key (keyed (f .strings) at l) refl (keyed-inside (f .strings) at l) (λ more now stop. formats-told f t n more now stop (drop (stop - at) l))
@@ -88,7 +88,6 @@ formats-told f t (suc n) earlier known at l =
                 s,
                 keyed-integer (f .strings) at l key next p,
                 there,
-                drop-past l at next stop a (omega arith),
                 then-on at stop l (formatsInTurn f t n more stop (drop (stop - at) l)) ended (omega arith) (formats-later f t n more stop (drop (stop - at) l)),
               )
               (r .told);

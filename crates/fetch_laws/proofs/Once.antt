@@ -24,7 +24,7 @@ use Rattle.facts.specs.declared.Facts.{Facts}
 use Rattle.fixed.specs.declared.Site.{Site}
 use Rattle.site.specs.Steps.{valueStep}
 use Rattle.site.specs.declared.Step.the-variants.{At}
-use Rattle.genotypes.specs.Formats.{formats, noneOver, roleOf, gtNow, gtAt, noGt}
+use Rattle.genotypes.specs.Formats.{formatField, soMany, formats, noneOver, roleOf, gtNow, gtAt, noGt}
 use Rattle.genotypes.specs.declared.Gt.{Gt}
 use Rattle.genotypes.specs.declared.Genotypes.the-variants.{Sound}
 use Rattle.fetch.specs.Fields.{paired}
@@ -66,7 +66,7 @@ pub record Turns (f : Facts) (t : Site) (n : ℕ) (earlier : List ℕ) (at : ℕ
 
 pub formats-turns : (f : Facts) (t : Site) (n : ℕ) (earlier : List ℕ) (known : Gt) (at : ℕ) (l : List ℕ) {g : Gt}
     → formats (f .strings) (f .people) (f .gt) (t .alleles) n earlier known at l ≡ Sound g → Turns f t n earlier at l
-unfolding formats format inTurn fieldsOf
+unfolding formatField soMany formats format inTurn fieldsOf
 formats-turns f t zero earlier known at l h =
     record { end = at; walked = refl; over = rw (sub-self at) (none-over known at l h .0); once = tt }
 formats-turns f t (suc n) earlier known at l h =
@@ -137,7 +137,7 @@ pub record Sounds (f : Facts) (t : Site) (n : ℕ) (earlier : List ℕ) (known :
 pub turns-formats : (f : Facts) (t : Site) (n : ℕ) (earlier : List ℕ) (known : Gt) (at : ℕ) (l : List ℕ) {e : ℕ}
     → inTurn (judging f t) (replicate n Format) at l ≡ At e → drop (e - at) l ≡ []
     → NoneTwice earlier (keysOf (fieldsOf (f .people) (replicate n Format) at l)) → Sounds f t n earlier known at l
-unfolding formats inTurn fieldsOf
+unfolding formatField soMany formats inTurn fieldsOf
 turns-formats f t zero earlier known at l {e} h o k =
     let z : at ≡ e = cc in
     let d : l ≡ [] = rw (← z, sub-self at) at o in
@@ -152,12 +152,12 @@ turns-formats f t (suc n) earlier known at l {e} h o k =
     let c = rw (j .field) at k in
     let r = turns-formats f t n (earlier ++ (j .key ∷ [])) (gtNow (j .key) (f .gt) (gtAt (j .code) (j .len) (j .first)) known) q (drop (q - at) l) (w .on)
     (rw (drop-past l at q e (omega arith) (i .0)) o) (c .1) in
-    record { gt = r .gt; all = rw (j .number, c .0, j .value, drop-past l at (j .next) q a b) (r .all) }
+    record { gt = r .gt; all = rw (j .number, c .0, j .value) (r .all) }
 
 -- GT, once it is known, stays: its key does not stand again
 gt-kept : (f : Facts) (t : Site) (n : ℕ) (earlier : List ℕ) (known : Gt) (at : ℕ) (l : List ℕ) {g : Gt} → among (f .gt) earlier ≡ true
     → formats (f .strings) (f .people) (f .gt) (t .alleles) n earlier known at l ≡ Sound g → known ≡ g
-unfolding formats gtNow
+unfolding formatField soMany formats gtNow
 gt-kept f t zero earlier known at l h e = none-over known at l e .1
 gt-kept f t (suc n) earlier known at l h e =
     let j = formats-field (f .strings) (f .people) (f .gt) (t .alleles) n earlier known at l e in
@@ -168,7 +168,7 @@ gt-kept f t (suc n) earlier known at l h e =
 pub formats-gt : (f : Facts) (t : Site) (n : ℕ) (earlier : List ℕ) (at : ℕ) (l : List ℕ) {g : Gt}
     → formats (f .strings) (f .people) (f .gt) (t .alleles) n earlier noGt at l ≡ Sound g
     → g ≡ gtIn (f .gt) (fieldsOf (f .people) (replicate n Format) at l)
-unfolding formats gtNow gtIn fieldsOf
+unfolding formatField soMany formats gtNow gtIn fieldsOf
 formats-gt f t zero earlier at l h = sym (none-over noGt at l h .1)
 formats-gt f t (suc n) earlier at l {g} h =
     let j = formats-field (f .strings) (f .people) (f .gt) (t .alleles) n earlier noGt at l h in

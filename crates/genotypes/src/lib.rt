@@ -1,12 +1,12 @@
 // The genotype block: FORMAT fields, each a key and a vector for each person, no key twice, to the block's last byte.
 // The block is lent up to its end. Rests on values and vectors, and on fixed for the header's facts.
 ghost use mathlib.Core.Path.{_≡_};
-ghost use Prim.Native.Nat.{_≤_};
+ghost use Prim.Native.Nat.{_%_, _≤_};
 ghost use lib.ListN.{drop, length, take};
 ghost use mathlib.Core.List.{[]};
 ghost use Rattle.words.specs.Lists.{among};
 ghost use Rattle.values.specs.Answers.{refusalIn};
-ghost use Rattle.genotypes.specs.Formats.{genotypesSays, roleOf, gtNow, noGt, formats};
+ghost use Rattle.genotypes.specs.Formats.{fieldSays, fieldInside, genotypesSays, roleOf, gtNow, noGt, formatField, formats};
 use facts::Facts;
 use types::Use;
 use values::Integer;
@@ -20,10 +20,41 @@ pub struct Gt {
     pub first: usize,
 }
 
+// A FORMAT field that is sound: its key, type and length for each person, and the places of its first element and after its last; or its refusal.
+pub enum FormatField {
+    Whole {
+        key: u32,
+        code: u8,
+        len: u32,
+        first: usize,
+        stop: usize,
+    },
+    Refused(Refusal),
+}
+
 // A genotype block that is sound, with its GT; or its refusal.
 pub enum Genotypes {
     Sound(Gt),
     Refused(Refusal),
+}
+
+// The refusal that a FORMAT field's answer says; number 0 where it says none.
+pub fn field_refusal(f: FormatField) -> Refusal
+    ensures { λ r. ⌜ r ≡ refusalIn (fieldSays f) ⌝ }
+{
+    match f {
+        FormatField::Whole {
+            key: _,
+            code: _,
+            len: _,
+            first: _,
+            stop: _,
+        } => Refusal {
+            number: 0,
+            place: 0,
+        },
+        FormatField::Refused(r) => r,
+    }
 }
 
 // The refusal that the answer of a genotype block says; number 0 where it says none.
@@ -91,12 +122,22 @@ fn few_have(few: &[u32], key: u32) -> bool
     false
 }
 
-// Whether a key is among the earlier ones. They are compared from the nearest backwards, since a repeat is nearly always the neighbour's: those after
-// the last whole row one by one, then row by row.
+// Where those of so many keys begin that are compared one by one: with the last whole row, or with the first key where there is no row.
+fn near_from(count: usize) -> usize
+    ensures { λ r. ⌜ (r ≤ count) × (r % 4 ≡ 0) ⌝ }
+{
+    if count < ROW {
+        return 0;
+    }
+    count - count % ROW - ROW
+}
+
+// Whether a key is among the earlier ones. They are compared from the nearest backwards, since a repeat is nearly always the neighbour's: the last
+// whole row and what follows it one by one, then row by row.
 pub fn is_repeated(earlier: &[u32], key: u32) -> bool
     ensures { λ r. ⌜ r ≡ among key (now (earlier .entry)) ⌝ }
 {
-    let mut i = earlier.len() - earlier.len() % ROW;
+    let mut i = near_from(earlier.len());
     if few_have(&earlier[i..], key) {
         return true;
     }
@@ -109,13 +150,50 @@ pub fn is_repeated(earlier: &[u32], key: u32) -> bool
     false
 }
 
+// The FORMAT field at a place, after earlier keys: its key, which is none of them, then its value by its use; or its refusal.
+pub fn format_at(
+    block: &[u8],
+    at: usize,
+    facts: Facts,
+    alleles: u32,
+    earlier: &[u32],
+) -> FormatField
+    ensures { λ r. ⌜ r ≡ formatField (facts .strings) (facts .people) (facts .gt) alleles (now (earlier .entry)) at (drop at (now (block .entry))) ⌝ }
+    ensures { λ r. ⌜ fieldInside at (length (now (block .entry))) r ⌝ }
+{
+    let k = values::key_at(block, at, facts.strings);
+    let Integer::One { bits, next } = k else {
+        return FormatField::Refused(values::integer_refusal(k));
+    };
+    if is_repeated(earlier, bits) {
+        return FormatField::Refused(Refusal {
+            number: 11,
+            place: at + 1,
+        });
+    }
+    let v = vectors::sound_value_at(block, next, role_of(bits, facts.gt), facts.people, alleles);
+    let Value::Present {
+        code,
+        len,
+        first,
+        stop,
+    } = v
+    else {
+        return FormatField::Refused(values::value_refusal(v));
+    };
+    FormatField::Whole {
+        key: bits,
+        code,
+        len,
+        first,
+        stop,
+    }
+}
+
 // So many FORMAT fields from a place on, to the end of the block: where GT stands; or the first refusal of a field, then 4.
 pub fn genotype_block(block: &[u8], from: usize, facts: Facts, alleles: u32, count: u8) -> Genotypes
     ensures { λ r. ⌜ r ≡ formats (facts .strings) (facts .people) (facts .gt) alleles count [] noGt from (drop from (now (block .entry))) ⌝ }
 {
-    let strings = facts.strings;
-    let people = facts.people;
-    let offset = facts.gt;
     let mut keys = [0u32; 256];
     let mut seen = 0;
     let mut left = count;
@@ -126,28 +204,19 @@ pub fn genotype_block(block: &[u8], from: usize, facts: Facts, alleles: u32, cou
         first: 0,
     };
     while 0 < left {
-        let k = values::key_at(block, at, strings);
-        let Integer::One { bits, next } = k else {
-            return Genotypes::Refused(values::integer_refusal(k));
-        };
-        if is_repeated(&keys[..seen], bits) {
-            return Genotypes::Refused(Refusal {
-                number: 11,
-                place: at + 1,
-            });
-        }
-        let v = vectors::sound_value_at(block, next, role_of(bits, offset), people, alleles);
-        let Value::Present {
+        let f = format_at(block, at, facts, alleles, &keys[..seen]);
+        let FormatField::Whole {
+            key,
             code,
             len,
             first,
             stop,
-        } = v
+        } = f
         else {
-            return Genotypes::Refused(values::value_refusal(v));
+            return Genotypes::Refused(field_refusal(f));
         };
-        gt = gt_after(bits, offset, Gt { code, len, first }, gt);
-        keys[seen] = bits;
+        gt = gt_after(key, facts.gt, Gt { code, len, first }, gt);
+        keys[seen] = key;
         seen += 1;
         at = stop;
         left -= 1;

@@ -18,7 +18,7 @@ use Rattle.site.specs.Steps.{times}
 use Rattle.site.specs.Alleles.{alleleBytes, allele}
 use Rattle.site.specs.Filters.{filters, filtered, filter}
 use Rattle.site.specs.Site.{info, site}
-use Rattle.genotypes.specs.Formats.{roleOf, gtNow, formats}
+use Rattle.genotypes.specs.Formats.{roleOf, gtNow, formatField, soMany, formats}
 use Rattle.record.specs.Reading.{siteOf, genotypesOf, reading}
 use Rattle.fetch.specs.Fields.{alone, paired}
 use Rattle.fetch.specs.Account.{fieldsOf, siteKinds, siteFields, genotypeFields, account, ofKind, numbered}
@@ -75,7 +75,7 @@ tight : Tight facts (withOnes bareSite bareSample)
 tight = rw (ones, ← empty-bytes) (keeps-tight facts emptyShown empty-keeps)
 
 pub bare-sample : BareSample
-unfolding bareSample among le number bytes outside rowOf widthOf marked kind widened shown integer trueLength keyed mayStand described present numbers shownNumbers vector vectors judged highest codeMost sound field posWrong peopleWrong qualWrong blocks wrongAt posOf posBits siteAt fixed times alleleBytes allele filters filtered filter info site roleOf gtNow formats siteOf genotypesOf reading elementsOf flatten elementsAt shownOf alone paired fieldsOf siteKinds siteFields genotypeFields account ofKind numbered fieldOf found fetched pairIn pairAt opened callsOf tallied chosenParts chosenFields chosenBlock chosenSite chosenRecord
+unfolding bareSample among le number bytes outside rowOf widthOf marked kind widened shown integer trueLength keyed mayStand described present numbers shownNumbers vector vectors judged highest codeMost sound field posWrong peopleWrong qualWrong blocks wrongAt posOf posBits siteAt fixed times alleleBytes allele filters filtered filter info site roleOf gtNow formatField soMany formats siteOf genotypesOf reading elementsOf flatten elementsAt shownOf alone paired fieldsOf siteKinds siteFields genotypeFields account ofKind numbered fieldOf found fetched pairIn pairAt opened callsOf tallied chosenParts chosenFields chosenBlock chosenSite chosenRecord
 bare-sample =
     record {
       read = refl;

@@ -18,7 +18,7 @@ use Rattle.site.specs.Steps.{times}
 use Rattle.site.specs.Alleles.{alleleBytes, allele}
 use Rattle.site.specs.Filters.{filters, filtered, filter}
 use Rattle.site.specs.Site.{info, site}
-use Rattle.genotypes.specs.Formats.{roleOf, gtNow, formats}
+use Rattle.genotypes.specs.Formats.{roleOf, gtNow, formatField, soMany, formats}
 use Rattle.record.specs.Reading.{siteOf, genotypesOf, reading}
 use Rattle.fetch.specs.Fields.{alone, paired}
 use Rattle.fetch.specs.Account.{fieldsOf, siteKinds, siteFields, genotypeFields, account, ofKind, numbered}
@@ -41,7 +41,7 @@ two = record { first = refl; second = refl; once = λ p h. once p h }
     once (suc (suc p)) h = absurd (omega arith)
 
 pub sample-cut : Cut
-unfolding sample second among le number bytes outside rowOf widthOf marked kind widened shown integer trueLength keyed mayStand described present numbers shownNumbers vector vectors judged highest codeMost sound field posWrong peopleWrong qualWrong blocks wrongAt posOf posBits siteAt fixed times alleleBytes allele filters filtered filter info site roleOf gtNow formats siteOf genotypesOf reading paired alone fieldsOf siteKinds siteFields genotypeFields account ofKind numbered fieldOf found fetched slots alleleOf alleles people called without howMany counters peopleTally peopleOf counted callsOf tallied ascendingFrom chosenParts chosenFields chosenBlock chosenSite chosenRecord choosing
+unfolding sample second among le number bytes outside rowOf widthOf marked kind widened shown integer trueLength keyed mayStand described present numbers shownNumbers vector vectors judged highest codeMost sound field posWrong peopleWrong qualWrong blocks wrongAt posOf posBits siteAt fixed times alleleBytes allele filters filtered filter info site roleOf gtNow formatField soMany formats siteOf genotypesOf reading paired alone fieldsOf siteKinds siteFields genotypeFields account ofKind numbered fieldOf found fetched slots alleleOf alleles people called without howMany counters peopleTally peopleOf counted callsOf tallied ascendingFrom chosenParts chosenFields chosenBlock chosenSite chosenRecord choosing
 sample-cut =
     record {
       bytes = refl;

@@ -13,7 +13,7 @@ use Rattle.site.specs.Steps.{times}
 use Rattle.site.specs.Alleles.{alleleBytes, allele}
 use Rattle.site.specs.Filters.{filters, filtered, filter}
 use Rattle.site.specs.Site.{info, site}
-use Rattle.genotypes.specs.Formats.{roleOf, gtNow, formats}
+use Rattle.genotypes.specs.Formats.{roleOf, gtNow, formatField, soMany, formats}
 use Rattle.record.specs.Reading.{siteOf, genotypesOf, reading}
 use Rattle.fetch.specs.Fields.{alone, paired}
 use Rattle.fetch.specs.Account.{fieldsOf, siteKinds, siteFields, genotypeFields, account, ofKind, numbered}
@@ -22,7 +22,7 @@ use Rattle.laws.specs.Sample.{sample}
 use Rattle.laws.specs.Fetched.{Fetched}
 
 pub sample-fetched : Fetched
-unfolding sample among le number outside rowOf widthOf marked kind widened shown integer trueLength keyed mayStand described present numbers shownNumbers vector vectors judged highest codeMost sound field posWrong peopleWrong qualWrong blocks wrongAt siteAt fixed times alleleBytes allele filters filtered filter info site roleOf gtNow formats siteOf genotypesOf reading alone paired fieldsOf siteKinds siteFields genotypeFields account ofKind numbered fieldOf found fetched
+unfolding sample among le number outside rowOf widthOf marked kind widened shown integer trueLength keyed mayStand described present numbers shownNumbers vector vectors judged highest codeMost sound field posWrong peopleWrong qualWrong blocks wrongAt siteAt fixed times alleleBytes allele filters filtered filter info site roleOf gtNow formatField soMany formats siteOf genotypesOf reading alone paired fieldsOf siteKinds siteFields genotypeFields account ofKind numbered fieldOf found fetched
 sample-fetched =
     record {
       id = refl;

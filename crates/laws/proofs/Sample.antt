@@ -18,7 +18,7 @@ use Rattle.site.specs.Steps.{times}
 use Rattle.site.specs.Alleles.{alleleBytes, allele}
 use Rattle.site.specs.Filters.{filters, filtered, filter}
 use Rattle.site.specs.Site.{info, site}
-use Rattle.genotypes.specs.Formats.{roleOf, gtNow, formats}
+use Rattle.genotypes.specs.Formats.{roleOf, gtNow, formatField, soMany, formats}
 use Rattle.record.specs.Reading.{siteOf, genotypesOf, reading}
 use Rattle.shown.specs.Shown.{Pair, Field, integers}
 use Rattle.fetch.specs.Fields.{alone, paired}
@@ -107,5 +107,5 @@ sample-keeps =
     short = omega arith
 
 pub sample-read : Sample
-unfolding sample among le number outside rowOf widthOf marked kind widened shown integer trueLength keyed mayStand described present numbers shownNumbers vector vectors judged highest codeMost sound field posWrong peopleWrong qualWrong blocks wrongAt posOf posBits siteAt fixed times alleleBytes allele filters filtered filter info site roleOf gtNow formats siteOf genotypesOf reading elementsOf flatten elementsAt alone paired fieldsOf siteKinds siteFields genotypeFields account ofKind shownOf slots alleleOf alleles people called without howMany counters peopleTally peopleOf counted callsOf tallied inDecimal decimal spaced callNumbers acceptedLine recordLine
+unfolding sample among le number outside rowOf widthOf marked kind widened shown integer trueLength keyed mayStand described present numbers shownNumbers vector vectors judged highest codeMost sound field posWrong peopleWrong qualWrong blocks wrongAt posOf posBits siteAt fixed times alleleBytes allele filters filtered filter info site roleOf gtNow formatField soMany formats siteOf genotypesOf reading elementsOf flatten elementsAt alone paired fieldsOf siteKinds siteFields genotypeFields account ofKind shownOf slots alleleOf alleles people called without howMany counters peopleTally peopleOf counted callsOf tallied inDecimal decimal spaced callNumbers acceptedLine recordLine
 sample-read = record { read = refl; shows = refl; built = sample-bytes; tight = rw sample-bytes at (keeps-tight facts sampleShown sample-keeps); tally = refl; line = refl }

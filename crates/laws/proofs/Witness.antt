@@ -21,7 +21,7 @@ use Rattle.site.specs.Steps.{times}
 use Rattle.site.specs.Alleles.{alleleBytes, allele}
 use Rattle.site.specs.Filters.{filters, filtered, filter}
 use Rattle.site.specs.Site.{info, site}
-use Rattle.genotypes.specs.Formats.{roleOf, gtNow, formats}
+use Rattle.genotypes.specs.Formats.{roleOf, gtNow, formatField, soMany, formats}
 use Rattle.record.specs.Reading.{siteOf, genotypesOf, reading}
 use Rattle.choice.specs.Choice.{ascendingFrom}
 use Rattle.choose_laws.specs.Divisions.{Division, other}
@@ -52,5 +52,5 @@ three = record { first = refl; second = refl; once = λ p h. once p h }
     once (suc (suc (suc p))) h = absurd (omega arith)
 
 pub witnessed : Witness
-unfolding witness posOf areBytes among le number outside rowOf widthOf marked kind widened shown integer trueLength keyed mayStand described present numbers shownNumbers vector vectors judged highest codeMost sound field posWrong peopleWrong qualWrong blocks wrongAt siteAt fixed times alleleBytes allele filters filtered filter info site roleOf gtNow formats siteOf genotypesOf reading ascendingFrom
+unfolding witness posOf areBytes among le number outside rowOf widthOf marked kind widened shown integer trueLength keyed mayStand described present numbers shownNumbers vector vectors judged highest codeMost sound field posWrong peopleWrong qualWrong blocks wrongAt siteAt fixed times alleleBytes allele filters filtered filter info site roleOf gtNow formatField soMany formats siteOf genotypesOf reading ascendingFrom
 witnessed = record { bytes = bytes-tested witness refl; read = refl; few = omega arith; chosen = refl; divided = three }

@@ -28,8 +28,8 @@ callsOf g people s =
     pick (eqb (g .len) 0) (nobody people)
     (counted (g .code) (g .len) (take (people * g .len * widthOf (g .code)) (drop (g .first) s)))
 
--- 01's number and values for each case, of a tally with these calls: the refusal; or alleles and people, people without a genotype, missing alleles, and
--- the calls of each of 64 alleles
+-- 01's number and values for each case, of a tally with these calls: the refusal; or alleles and people, people without a genotype, missing alleles,
+-- and the calls of each of 64 alleles
 abbrev pub countingSays : Calls → Counting → Says
 countingSays k (Refused r) = refuses r
 countingSays k (Counted t) = holds (t .alleles ∷ t .people ∷ k .without ∷ k .counts)

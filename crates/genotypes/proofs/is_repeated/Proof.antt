@@ -1,6 +1,6 @@
 -- `genotypes::is_repeated` meets its contract. The loop's invariant: the key is among all earlier ones as it is among those before here, which are whole rows.
 use mathlib.Core.Path.{_≡_, _∙_}
-use Prim.Native.Nat.{_-_, _%_, _≤_}
+use Prim.Native.Nat.{_%_, _≤_}
 use native.Mathlib.Omega.{arith}
 use lib.ListN.{length, take}
 use Rattle.words.specs.Lists.{among}
@@ -11,6 +11,7 @@ use Rattle.genotypes.proofs.is_repeated.Tie as tie
 use Rattle.genotypes.proofs.is_repeated.Reads as reads
 use Rattle.genotypes.proofs.is_repeated.Lts as lts
 use Rattle.genotypes.proofs.few_have.Reads as few-have-reads
+use Rattle.genotypes.proofs.near_from.Reads as near-from-reads
 use Rattle.genotypes.proofs.row_has.Reads as row-has-reads
 
 abbrev Inv-loop : tie.InvT-loop
@@ -20,8 +21,8 @@ Inv-loop earlier key i₀ i =
 abbrev μ-loop : tie.MeasureT-loop
 μ-loop earlier key i₀ i = i
 
-sub-i : tie.Need-sub-i Inv-loop μ-loop
-sub-i c = search needs
+near-from-requires : tie.Need-near-from-requires Inv-loop μ-loop
+near-from-requires c κs = search needs
 
 mul-few-have : tie.Need-mul-few-have Inv-loop μ-loop
 mul-few-have c = search needs
@@ -40,16 +41,15 @@ few-have-requires c κs = search needs
 
 returns : tie.Need-returns Inv-loop μ-loop
 returns c =
-    let a = c .before .before .before .before .args in
-    let n = length (a .earlier .now) in
-    rw (nearest-of-all (a .earlier .now) (a .key) (n - n % 4) (omega arith), ← c .before .few-have .ensures, c .if1 .taken)
+    let a = c .before .before .before .before .before .args in
+    let near = c .before .before .before .near-from in
+    rw (nearest-of-all (a .earlier .now) (a .key) (near .result) (near .ensures .0), ← c .before .few-have .ensures, c .if1 .taken)
 
 loop-holds : tie.Need-loop-holds Inv-loop μ-loop
 loop-holds c =
-    let a = c .before .before .before .before .args in
-    let n = length (a .earlier .now) in
-    let near = nearest-of-all (a .earlier .now) (a .key) (n - n % 4) (omega arith) in
-    (near ∙ rw (← c .before .few-have .ensures, c .if1 .left), omega arith, omega arith)
+    let a = c .before .before .before .before .before .args in
+    let near = c .before .before .before .near-from in
+    (nearest-of-all (a .earlier .now) (a .key) (near .result) (near .ensures .0) ∙ rw (← c .before .few-have .ensures, c .if1 .left), near .ensures .0, near .ensures .1)
 
 add-row-has : tie.Need-add-row-has Inv-loop μ-loop
 add-row-has c = search needs
@@ -72,7 +72,7 @@ row-has-requires c κs = search needs
 returns-2 : tie.Need-returns-2 Inv-loop μ-loop
 returns-2 c =
     let l = c .before .before .before .before .loop in
-    let a = c .before .before .before .before .before .before .before .before .before .args in
+    let a = c .before .before .before .before .before .before .before .before .before .before .args in
     rw (l .inv .0, nearest-row (a .earlier .now) (a .key) 4 (l .i) (omega arith), ← c .before .row-has .ensures, c .if2 .taken)
 
 loop-less : tie.Need-loop-less Inv-loop μ-loop
@@ -81,7 +81,7 @@ loop-less c = search needs
 loop-again : tie.Need-loop-again Inv-loop μ-loop
 loop-again c =
     let l = c .before .before .before .before .loop in
-    let a = c .before .before .before .before .before .before .before .before .before .args in
+    let a = c .before .before .before .before .before .before .before .before .before .before .args in
     let near = nearest-row (a .earlier .now) (a .key) 4 (l .i) (omega arith) in (
       l .inv .0 ∙ near ∙ rw (← c .before .row-has .ensures, c .if2 .left),
       omega arith,
@@ -101,7 +101,7 @@ is-repeated-spec =
     (tie.spec
     Inv-loop
     μ-loop
-    sub-i
+    near-from-requires
     mul-few-have
     sub-few-have
     part-few-have-start
