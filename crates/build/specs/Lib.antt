@@ -1,3 +1,4 @@
+pub mod Answers
 pub mod Turns
 pub mod Order
 pub mod Values

@@ -5,6 +5,7 @@ use lib.Dec.{ltb, eqb}
 use lib.ListN.{length, getD, take, drop}
 use Rattle.words.specs.Pick.{pick}
 use Rattle.stores.specs.Stores.{filled}
+use Rattle.build.specs.Answers.{answerNumber, answerPlace}
 use Rattle.build.specs.Order.{rank}
 use Rattle.build.specs.Turns.{freshState, movedTo}
 use Rattle.build.specs.declared.Stage.{Stage}
@@ -13,7 +14,7 @@ use Rattle.build.specs.declared.Builder.{Builder}
 use Rattle.build.specs.declared.Answer.{Answer}
 use Rattle.build.specs.declared.Answer.the-variants.{Taken, Refused}
 use Rattle.build.specs.declared.Turned.{Turned}
-use Rattle.c_answers.specs.Told.{answer, refusedAnswer}
+use Rattle.c_answers.specs.Told.{answer}
 
 -- the stage of a rank; past the last one nothing is taken any more
 unfoldable pub stageOf : ℕ → Stage
@@ -52,13 +53,13 @@ stateOf ns =
       keys = take 256 (drop 10 ns);
     })
 
--- a turn: the bytes written so far, or its refusal; the numbers hold the next state, and on a refusal what they held
-abbrev pub answeredWith : Builder → Answer → ℕ
-answeredWith st Taken = answer 0 (st .at)
-answeredWith st (Refused r) = refusedAnswer r
+-- a turn: its number, with 0 the bytes written so far, else the place; the numbers hold the next state, and on a refusal what they held
+abbrev pub turnLow : Builder → Answer → ℕ
+turnLow st Taken = st .at
+turnLow st (Refused r) = answerPlace (Refused r)
 
 abbrev pub turnAnswer : Turned → ℕ
-turnAnswer t = answeredWith (t .state) (t .answer)
+turnAnswer t = answer (answerNumber (t .answer)) (turnLow (t .state) (t .answer))
 
 abbrev pub heldAfter : List ℕ → Builder → Answer → List ℕ
 heldAfter ns st Taken = filled ns 0 (stateNumbers st)

@@ -31,12 +31,13 @@ fieldOf-found : (f : Facts) (s : List ℕ) (t : Site) (g : Gt) (kind : Kind) (n 
 unfolding found
 fieldOf-found f s t g kind n h = rw h
 
--- what is answered at every index says which elements they are
+-- an element of any kind has 32 bits
 most-bits : (k : Sort) (x : ℕ) → x < mostElement k → x < 2 ^ 32
 most-bits integers x h = omega arith
 most-bits floats x h = omega arith
 most-bits text x h = omega arith
 
+-- what is answered at every index says which elements they are
 shownAt-same : (t : ℕ) (xs ys : List ℕ) → Fit (kindOf t) xs → Fit (kindOf t) ys → ((i : ℕ) → shownAt t xs i ≡ shownAt t ys i) → xs ≡ ys
 shownAt-same t [] [] p q h = refl
 shownAt-same t [] (y ∷ ys) p q h = absurd (shownBy-there t y (h 0))

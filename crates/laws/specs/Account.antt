@@ -1,6 +1,6 @@
 -- One account of what a record holds: `account t s`, the list of its fields. Reading judges them in turn, fetching takes one by its number, the walker the
 -- next, GT is the one with GT's key, and what a record shows is a map over it; so whoever reads "shown" on the pages of demands 2 and 3 may read
--- "fetched". Rests on fetch, the walker, contents and fetch_laws.
+-- "fetched". Rests on fetch, the walker, contents and fetch_laws, and on build_laws for how large an element of a kind is.
 use Prim.Native.Nat.{ℕ}
 use mathlib.Core.Path.{_≡_}
 use mathlib.Core.Logic.{_≢_}

@@ -1,4 +1,5 @@
 -- `c_state::keep` meets its contract.
+use Rattle.c_answers.specs.Told.{refusedAnswer}
 use borrow.Author.Needs.{needs}
 use Rattle.c_state.proofs.keep.Statement.{statement}
 use Rattle.c_state.proofs.keep.Tie as tie
@@ -34,6 +35,7 @@ refused-answer-requires : tie.Need-refused-answer-requires
 refused-answer-requires c κs = search needs
 
 returns-2 : tie.Need-returns-2
+unfolding refusedAnswer
 returns-2 c =
     (rw (c .before .before .answer .given .1) (c .refused-answer .ensures), rw (c .before .before .answer .given .1))
 
