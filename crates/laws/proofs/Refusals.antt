@@ -1,6 +1,10 @@
 -- The laws of refusals, proved: each cites the file of refusal_laws that did the work. Rests on specs/Refusals.
+use mathlib.Core.Path.{refl}
+use Rattle.words.specs.Lists.{among}
 use Rattle.elements.specs.Elements.{elementAt}
 use Rattle.walker.specs.Walk.{pairAt}
+use Rattle.refusal_laws.specs.Numbers.{allGive, table}
+use Rattle.refusal_laws.proofs.Among.{among-wider}
 use Rattle.refusal_laws.proofs.Reading.{reading-refused}
 use Rattle.refusal_laws.proofs.AfterReading.{field-refused, found-refused, fetched-refused, opened-refused, tallied-refused, choosing-refused}
 use Rattle.refusal_laws.proofs.Turns.{made-of-one, begun-refuses, id-refuses, allele-refuses, filter-refuses, info-refuses, format-refuses, end-refuses}
@@ -8,8 +12,10 @@ use Rattle.refusal_laws.proofs.Answers.{reading-answered, found-answered, field
 use Rattle.laws.specs.Refusals.{Refusals}
 
 pub refusals : Refusals
+unfolding among
 refusals =
     record {
+      numbers = λ n. (among-wider n allGive table refl, among-wider n table allGive refl);
       reads = reading-refused;
       fetches = λ f kind n s r h. (found-refused f kind n s r h, fetched-refused f kind n s r h);
       fetches-again = field-refused;

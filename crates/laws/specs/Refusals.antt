@@ -31,11 +31,13 @@ use Rattle.build.specs.declared.Turned.{Turned}
 use Rattle.build_laws.specs.Records.{Fit}
 use Rattle.c_answers.specs.Told.{readingAnswer, readingNumbers, foundAnswer, foundNumbers, pairAnswer, pairNumbers, openingAnswer, shownAnswer, talliedAnswer, talliedNumbers, choosingAnswer}
 use Rattle.c_state.specs.Kept.{turnAnswer, turnNumbers, freshAnswer, freshNumbers}
-use Rattle.refusal_laws.specs.Numbers.{readingGives, fetchingGives, tallyGives, choosingGives, beginGives, idGives, alleleGives, filterGives, infoGives, formatGives, endGives, tellingGives}
+use Rattle.refusal_laws.specs.Numbers.{readingGives, fetchingGives, tallyGives, choosingGives, beginGives, idGives, alleleGives, filterGives, infoGives, formatGives, endGives, tellingGives, allGive, table}
 use Rattle.record_laws.specs.Told.{ownLength}
 use Rattle.refusal_laws.specs.Refused.{InRecord, AtStart, AfterReading, Refuses, Halves, Answered}
 
 pub record Refusals : Type 0 where
+  -- the numbers of all functions together are 01's table
+  pub numbers : (n : ℕ) → (among n allGive ≡ true → among n table ≡ true) × (among n table ≡ true → among n allGive ≡ true)
   -- reading: 1 to 11, at place 0 or at a place of the record, which is lent so far
   pub reads : (f : Facts) (s : List ℕ) (r : Refusal) → reading f s ≡ Unread r → InRecord readingGives s r
   -- fetching: reading's, or then 16 at place 0; and an empty part. Of a record that was read, 16 alone
@@ -43,7 +45,7 @@ pub record Refusals : Type 0 where
       → AfterReading fetchingGives f s r × (fetched f kind n s ≡ [])
   pub fetches-again : (kind : Kind) (n : ℕ) (t : Site) (s : List ℕ) (r : Refusal) → fieldOf kind n t s ≡ NoField r → AtStart fetchingGives r
   -- opening the walk: reading's
-  pub opens : (f : Facts) (s : List ℕ) (r : Refusal) → opened f s ≡ Unopened r → AfterReading [] f s r
+  pub opens : (f : Facts) (s : List ℕ) (r : Refusal) → opened f s ≡ Unopened r → reading f s ≡ Unread r
   -- the tally: reading's, or then 15 at place 0; and every counter 0
   pub tallies : (f : Facts) (s : List ℕ) (r : Refusal) → tallied f s .answer ≡ Uncounted r
       → AfterReading tallyGives f s r × (tallied f s .calls ≡ nobody 0)

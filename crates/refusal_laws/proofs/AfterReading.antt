@@ -88,16 +88,16 @@ unfolding fetched
 fetched-refused f kind n s r h = rw h
 
 -- opening the walk: reading's alone
-pub opened-refused : (f : Facts) (s : List ℕ) (r : Refusal) → opened f s ≡ Unopened r → AfterReading [] f s r
+pub opened-refused : (f : Facts) (s : List ℕ) (r : Refusal) → opened f s ≡ Unopened r → reading f s ≡ Unread r
 unfolding opened found
 opened-refused f s r h = by-reading (reading f s) refl h
   where
-    by-field : (x : Found) → isField x ≡ true → firstAfter x ≡ Unopened r → AfterReading [] f s r
+    by-field : (x : Found) {y : Reading} → isField x ≡ true → firstAfter x ≡ Unopened r → y ≡ Unread r
     by-field (NoField q) i k = let z : _≡_ {A = ℕ} 0 1 = cc in absurd (omega arith)
     by-field (Field key t n place stop) i k = let z : _≡_ {A = ℕ} 0 1 = cc in absurd (omega arith)
 
-    by-reading : (x : Reading) → reading f s ≡ x → openedBy s x ≡ Unopened r → AfterReading [] f s r
-    by-reading (Unread q) e k = from-reading [] f s r (cc)
+    by-reading : (x : Reading) → reading f s ≡ x → openedBy s x ≡ Unopened r → x ≡ Unread r
+    by-reading (Unread q) e k = cc
     by-reading (Accepted t g) e k = by-field (fieldOf Filter 0 t s) (rw e at (found-there f Filter 0 s t g e (omega arith))) k
 
 -- the tally: 15 for more than 64 alleles, and every counter 0

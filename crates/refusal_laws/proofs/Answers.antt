@@ -96,7 +96,7 @@ in-record numbers more s r h = record { number = among-before (r .number) number
 at-zero : (numbers more : List ℕ) (r : Refusal) → AtStart numbers r → Told (numbers ++ more) 0 r
 at-zero numbers more r h = record { number = among-before (r .number) numbers more (h .number); place = omega (arith, h .place) }
 
--- reading, fetching, and fetching without reading again
+-- reading
 pub reading-answered : (f : Facts) (s out : List ℕ)
     → Answered (readingGives ++ tellingGives) (ownLength s) (readingAnswer (length out) (reading f s)) out (readingNumbers out (reading f s))
 unfolding among
@@ -107,7 +107,7 @@ reading-answered f s out = by-reading (reading f s) refl
     by-reading (Unread r) e = refused _ _ r out out (in-record readingGives tellingGives s r (reading-refused f s r e)) refl
     by-reading (Accepted t g) e = tells _ (ownLength s) (t .length) out (siteNumbers t g) refl
 
--- a field: its refusal is told up to an end
+-- fetching, also without reading again: a field, whose refusal is told up to an end
 found-by : (numbers : List ℕ) (end : ℕ) (out : List ℕ) (x : Found) → among 13 numbers ≡ true → ((r : Refusal) → x ≡ NoField r → Told numbers end r)
     → Answered numbers end (foundAnswer (length out) x) out (foundNumbers out x)
 found-by numbers end out (NoField r) h k = refused numbers end r out out (k r refl) refl
@@ -132,7 +132,8 @@ pub opening-halves : (f : Facts) (s : List ℕ) → Halves readingGives (ownLeng
 opening-halves f s = by-opening (opened f s) refl
   where
     by-opening : (x : Opening) → opened f s ≡ x → Halves readingGives (ownLength s) (openingAnswer x)
-    by-opening (Unopened r) e = refused-halves readingGives (ownLength s) r (in-record readingGives [] s r (opened-refused f s r e .told))
+    by-opening (Unopened r) e =
+        refused-halves readingGives (ownLength s) r (in-record readingGives [] s r (reading-refused f s r (opened-refused f s r e)))
     by-opening (First at) e = accepted-halves readingGives (ownLength s) at
 
 pub pair-answered : (p : Pair) (out : List ℕ) → Answered (fetchingGives ++ tellingGives) 0 (pairAnswer (length out) p) out (pairNumbers out p)

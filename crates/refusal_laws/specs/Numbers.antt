@@ -1,6 +1,6 @@
 -- The numbers of 01's table that a refusal may carry, function by function, in the order in which they are judged. Rests on nothing.
 use Prim.Native.Nat.{ℕ}
-use mathlib.Core.List.{List, [], _∷_}
+use mathlib.Core.List.{List, [], _∷_, _++_}
 
 -- reading: the lengths, the fixed fields, and then everything in byte order
 abbrev pub readingGives : List ℕ
@@ -41,3 +41,12 @@ endGives = 12 ∷ 13 ∷ []
 -- where an answer is told in numbers: a lent slice too short for them
 abbrev pub tellingGives : List ℕ
 tellingGives = 13 ∷ []
+
+-- all of these together; and 01's table
+abbrev pub allGive : List ℕ
+allGive =
+    readingGives ++ fetchingGives ++ tallyGives ++ choosingGives ++ beginGives ++ idGives ++ alleleGives ++ filterGives ++ infoGives ++ formatGives
+    ++ endGives ++ tellingGives
+
+abbrev pub table : List ℕ
+table = 1 ∷ 2 ∷ 3 ∷ 4 ∷ 5 ∷ 6 ∷ 7 ∷ 8 ∷ 9 ∷ 10 ∷ 11 ∷ 12 ∷ 13 ∷ 14 ∷ 15 ∷ 16 ∷ []
