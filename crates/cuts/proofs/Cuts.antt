@@ -51,7 +51,7 @@ unfolding cutRecord keptRecord
 followed-said f cs buf bs t g w h = let q = sym (accepted-followed f bs t g h) ∙ w in (rw (h, q), rw (h, q))
 
 -- the first bytes of what was stored
-stored-front : (buf r : List ℕ) → length r ≤ length buf → take (length r) (sets buf 0 r) ≡ r
+pub stored-front : (buf r : List ℕ) → length r ≤ length buf → take (length r) (sets buf 0 r) ≡ r
 stored-front buf r h = rw (sets-eq r buf 0 (omega arith), take-append-seam)
 
 -- a record that no bytes follow, chosen from into a buffer that has room for it

@@ -59,7 +59,7 @@ release-stored out f n h =
 
 -- the release's first line without its line feed gives the header's facts, with the people chosen
 pub release-read : (f : Facts) (n : ℕ) → f .strings < 2 ^ 32 → f .contigs < 2 ^ 32 → n < 2 ^ 32 → f .gt < 2 ^ 32
-    → factsOf (take 32 (releaseLine f n)) ≡ Said (f .strings) (f .contigs) n (f .gt)
+    → factsOf (take 32 (releaseLine f n)) ≡ Said (record { strings = f .strings; contigs = f .contigs; people = n; gt = f .gt })
 unfolding releaseLine factsOf capitals highFirst
 release-read f n s c p g =
     let last = highFirst (f .gt) ++ [] in

@@ -1,17 +1,12 @@
--- A line holds at most 30,000 bytes, so where the buffers have room for that many there is always room. Rests on hexadecimal.
-use mathlib.Core.Path.{_≡_, refl, ap}
+-- Where the buffers have room for any record and any answer, each has. Rests on specs/Cuts.
+use mathlib.Core.Path.{_≡_, refl}
 use mathlib.Core.List.{List}
 use mathlib.Core.Bool.{Bool, true, false}
-use mathlib.Core.Option.{Option, none, some}
-use Prim.Native.Nat.{ℕ, _%_, _≤_}
-use native.Mathlib.Omega.{arith}
-use lib.Dec.{ltb, eqb}
+use lib.Dec.{ltb}
 use lib.ListN.{length}
-use borrow.Author.Tests.{le-ltb, ltb-false}
+use Prim.Native.Nat.{ℕ, _≤_}
+use borrow.Author.Tests.{ltb-false}
 use Rattle.words.specs.Pick.{pick}
-use Rattle.hexadecimal.specs.Hexadecimal.{digits, lineBytes, frameOf, answered}
-use Rattle.hexadecimal.specs.declared.Frame.the-variants.{Bytes, NoRoom}
-use Rattle.hexadecimal.proofs.Digits.{length-line-bytes}
 use Rattle.cuts.specs.Cuts.{recordRoom, lineRoom, roomy}
 
 pub rooms : (frame chosen out : List ℕ) → roomy frame chosen out ≡ true
@@ -26,36 +21,3 @@ rooms frame chosen out h =
     both : (b r : Bool) → pick b false r ≡ true → (b ≡ false) × (r ≡ true)
     both true r k = (cc, cc)
     both false r k = (refl, k)
-
-pub frame-most : (l bs : List ℕ) → frameOf l ≡ some bs → length bs ≤ recordRoom
-unfolding frameOf
-frame-most l bs h = by-long (ltb 60000 (length l)) refl h
-  where
-    by-digits : (d : Bool) → pick d (some (lineBytes l)) none ≡ some bs → lineBytes l ≡ bs
-    by-digits true e = cc
-    by-digits false e = cc
-
-    by-odd : (o : Bool) → pick o none (pick (digits l) (some (lineBytes l)) none) ≡ some bs → lineBytes l ≡ bs
-    by-odd true e = cc
-    by-odd false e = by-digits (digits l) e
-
-    by-long : (b : Bool) → ltb 60000 (length l) ≡ b
-        → pick b none (pick (eqb (length l % 2) 1) none (pick (digits l) (some (lineBytes l)) none)) ≡ some bs
-        → length bs ≤ recordRoom
-    by-long true k e = let z : _≡_ {A = ℕ} 0 1 = cc in absurd (omega arith)
-    by-long false k e =
-        let q = ap length (by-odd (eqb (length l % 2) 1) e) in
-        omega (arith, q, length-line-bytes l, ltb-false 60000 (length l) k)
-
--- a buffer of 30,000 bytes is never too short
-pub frame-room : (room : ℕ) (l : List ℕ) → recordRoom ≤ room → answered room (frameOf l) ≡ NoRoom → ⊥
-frame-room room l r h = by-frame (frameOf l) refl h
-  where
-    by-frame : (o : Option (List ℕ)) → frameOf l ≡ o → answered room o ≡ NoRoom → ⊥
-    by-frame none e k = let z : _≡_ {A = ℕ} 0 1 = cc in omega arith
-    by-frame (some bs) e k =
-        let m = frame-most l bs e in
-        let q : ltb room (length bs) ≡ false = le-ltb room (length bs) (omega arith) in
-        let b : Bytes (length bs) ≡ NoRoom = rw q at k in
-        let z : _≡_ {A = ℕ} 0 1 = cc in
-        omega arith

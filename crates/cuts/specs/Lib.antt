@@ -1,3 +1,5 @@
 pub mod Cuts
 pub mod Engine
+pub mod Printed
 pub mod Release
+pub mod Steps

@@ -35,3 +35,8 @@ placed room at text = pick (ltb room (at + length text)) NoRoom (At (at + length
 abbrev pub placeInside : ℕ → Put → Type 0
 placeInside room (At q) = q ≤ room
 placeInside room NoRoom = Unit {0}
+
+-- a text that was put, in 01's terms, its number and its value: number 0 and the place after the text; 13 at place 0 where it has no room
+abbrev pub putTold : Put → ℕ × ℕ
+putTold (At q) = (0, q)
+putTold NoRoom = (13, 0)

@@ -5,13 +5,23 @@ ghost use mathlib.Core.List.{[], _∷_};
 ghost use Prim.Native.Nat.{_+_, _≤_};
 ghost use lib.ListN.{length};
 ghost use lib.Seq.{sets};
-ghost use Rattle.decimal.specs.Decimal.{decimal, placed, placeInside};
+ghost use Rattle.decimal.specs.Decimal.{decimal, placed, placeInside, putTold};
 ghost use Rattle.stores.specs.Stores.{filled};
 
 // A text put into a buffer: the place after it, or no room and nothing written.
 pub enum Put {
     At(usize),
     NoRoom,
+}
+
+// The place after a text that was put; place 0 where it had no room.
+pub fn place_after(p: Put) -> usize
+    ensures { λ r. ⌜ r ≡ putTold p .1 ⌝ }
+{
+    match p {
+        Put::At(next) => next,
+        Put::NoRoom => 0,
+    }
 }
 
 // How many digits a number has: what is to be stored is known before the first byte of it.

@@ -1,2 +1,4 @@
 pub mod Answers
+pub mod Behind
+pub mod Steps
 pub mod Texts

@@ -79,3 +79,8 @@ decoded frame out line = pick (ltb out textRoom) frame (stored frame (frameOf li
 abbrev pub textInside : ℕ → Answer → Type 0
 textInside end (Text n) = n ≤ end
 textInside end NoRoom = Unit {0}
+
+-- an answer in 01's terms, its number and its value: number 0 and the length of the text; 13 at place 0 where a buffer is too short
+abbrev pub answerTold : Answer → ℕ × ℕ
+answerTold (Text n) = (0, n)
+answerTold NoRoom = (13, 0)

@@ -1,2 +1,4 @@
 pub mod Frames
+pub mod Printed
+pub mod Steps
 pub mod Text

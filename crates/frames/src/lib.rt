@@ -1,4 +1,4 @@
-// What the line program says of one line: the answer's whole text, into a lent buffer.
+// What the line program says of one line: the answer's whole text, into a lent buffer; and its step from line to line.
 // Rests on hexadecimal and decimal for the text, and on record and tally for what is said.
 ghost use mathlib.Core.List.{[], _∷_, _++_};
 ghost use mathlib.Core.Path.{_≡_};
@@ -6,22 +6,51 @@ ghost use Prim.Native.Nat.{_+_, _*_, _≤_};
 ghost use lib.ListN.{length};
 ghost use lib.Seq.{sets};
 ghost use Rattle.frames.specs.Text.{spaced, line, badLine, noLine};
-ghost use Rattle.frames.specs.Frames.{acceptedLine, recordLine, said, saidIn, lineSaid, lineSaidIn, textInside, decoded};
-use decimal::Put;
+ghost use Rattle.frames.specs.Frames.{acceptedLine, recordLine, said, saidIn, lineSaid, lineSaidIn, textInside, decoded, answerTold, answerLine, textRoom};
+ghost use Rattle.frames.specs.Steps.{stageAfter, lineText, stepRoom, frameRoom, stepped, steppedOut, steppedFrame, finished, finishedOut, stepInside, ended};
+ghost use Rattle.frames.specs.declared.Stage.the-variants.{First, Records, Ended};
+ghost use Rattle.frames.specs.declared.Stepped.the-variants.{Next};
+ghost use Rattle.hexadecimal.specs.Hexadecimal.{frameOf, stored};
 use facts::Facts;
 use fixed::Site;
 use genotypes::Gt;
+use hexadecimal::FactsLine;
 use hexadecimal::Frame;
 use record::Reading;
 use values::Refusal;
 
-// The room that any answer has.
+// The room that any answer has, and any record that a line holds.
 const TEXT_ROOM: usize = 2048;
+
+const FRAME_ROOM: usize = 30000;
 
 // The answer to a line: so many bytes of text; or a buffer is too short for any answer.
 pub enum Answer {
     Text(usize),
     NoRoom,
+}
+
+// Where the input stands: before its first line, among the records' lines, or past a first line that is bad or absent.
+pub enum Stage {
+    First,
+    Records(Facts),
+    Ended,
+}
+
+// After a line: where the input stands then, and how many bytes of text wait; or a buffer is too short for any answer.
+pub enum Stepped {
+    Next { stage: Stage, waiting: usize },
+    NoRoom,
+}
+
+// How long an answer's text is; 0 where there was no room for it.
+pub fn text_length(a: Answer) -> usize
+    ensures { λ r. ⌜ r ≡ answerTold a .1 ⌝ }
+{
+    match a {
+        Answer::Text(n) => n,
+        Answer::NoRoom => 0,
+    }
 }
 
 // Puts each number after a space, from a place on, and answers the place after them.
@@ -36,10 +65,7 @@ fn put_numbers(out: &mut [u8], from: usize, numbers: &[u64]) -> usize
     while i < numbers.len() {
         out[at] = b' ';
         let p = decimal::put_decimal(out, at + 1, numbers[i]);
-        let Put::At(next) = p else {
-            return at;
-        };
-        at = next;
+        at = decimal::place_after(p);
         i += 1;
     }
     at
@@ -174,5 +200,112 @@ pub fn answer_line(line: &[u8], facts: Facts, frame: &mut [u8], out: &mut [u8]) 
         Frame::Bytes(n) => Answer::Text(put_record(out, &frame[..n], facts)),
         Frame::Bad => Answer::Text(put_bad(out)),
         Frame::NoRoom => Answer::NoRoom,
+    }
+}
+
+// Whether any record has room in its buffer, and any answer after the text that waits.
+fn has_step_room(frame: usize, out: usize, waiting: usize) -> bool
+    ensures { λ r. ⌜ r ≡ stepRoom frame out waiting ⌝ }
+{
+    if frame < FRAME_ROOM {
+        return false;
+    }
+    stores::has_room(out, waiting, TEXT_ROOM)
+}
+
+// Says `bad` behind what waits, and that it ends there.
+fn bad_step(out: &mut [u8], waiting: usize) -> Stepped
+    requires { ⌜ waiting + textRoom ≤ length (now out) ⌝ }
+    ensures { λ r. ⌜ r ≡ Next Ended (waiting + length badLine) ⌝ }
+    ensures { λ r. ⌜ stepInside (length (now (out .entry))) r ⌝ }
+    ensures { λ _. ⌜ now (out .exit) ≡ sets (now (out .entry)) waiting badLine ⌝ }
+{
+    let n = put_bad(&mut out[waiting..]);
+    Stepped::Next {
+        stage: Stage::Ended,
+        waiting: waiting + n,
+    }
+}
+
+// The step of the first line.
+fn first_step(line: &[u8], out: &mut [u8], waiting: usize) -> Stepped
+    requires { ⌜ waiting + textRoom ≤ length (now out) ⌝ }
+    ensures { λ r. ⌜ r ≡ Next (stageAfter First (now (line .entry))) (waiting + length (lineText First (now (line .entry)))) ⌝ }
+    ensures { λ r. ⌜ stepInside (length (now (out .entry))) r ⌝ }
+    ensures { λ _. ⌜ now (out .exit) ≡ sets (now (out .entry)) waiting (lineText First (now (line .entry))) ⌝ }
+{
+    let f = hexadecimal::facts_of(line);
+    let FactsLine::Facts(facts) = f else {
+        return bad_step(out, waiting);
+    };
+    Stepped::Next {
+        stage: Stage::Records(facts),
+        waiting,
+    }
+}
+
+// The step of a record's line.
+fn record_step(
+    line: &[u8],
+    facts: Facts,
+    frame: &mut [u8],
+    out: &mut [u8],
+    waiting: usize,
+) -> Stepped
+    requires { ⌜ (frameRoom ≤ length (now frame)) × (waiting + textRoom ≤ length (now out)) ⌝ }
+    ensures { λ r. ⌜ r ≡ Next (Records facts) (waiting + length (answerLine facts (now (line .entry)))) ⌝ }
+    ensures { λ r. ⌜ stepInside (length (now (out .entry))) r ⌝ }
+    ensures { λ _. ⌜ now (out .exit) ≡ sets (now (out .entry)) waiting (answerLine facts (now (line .entry))) ⌝ }
+    ensures { λ _. ⌜ now (frame .exit) ≡ stored (now (frame .entry)) (frameOf (now (line .entry))) ⌝ }
+{
+    let a = answer_line(line, facts, frame, &mut out[waiting..]);
+    let n = text_length(a);
+    Stepped::Next {
+        stage: Stage::Records(facts),
+        waiting: waiting + n,
+    }
+}
+
+// The step of a line: its answer's text is put behind what waits in `out`, a record's bytes at the start of `frame`. Or no room, and nothing is put.
+pub fn step(stage: Stage, line: &[u8], frame: &mut [u8], out: &mut [u8], waiting: usize) -> Stepped
+    ensures told { λ r. ⌜ r ≡ stepped (length (now (frame .entry))) (length (now (out .entry))) waiting stage (now (line .entry)) ⌝ }
+    ensures inside { λ r. ⌜ stepInside (length (now (out .entry))) r ⌝ }
+    ensures written { λ _. ⌜ now (out .exit) ≡ steppedOut (length (now (frame .entry))) (now (out .entry)) waiting stage (now (line .entry)) ⌝ }
+    ensures decoded { λ _. ⌜ now (frame .exit) ≡ steppedFrame (now (frame .entry)) (length (now (out .entry))) waiting stage (now (line .entry)) ⌝ }
+{
+    if has_step_room(frame.len(), out.len(), waiting) {
+        return match stage {
+            Stage::First => first_step(line, out, waiting),
+            Stage::Records(facts) => record_step(line, facts, frame, out, waiting),
+            Stage::Ended => Stepped::Next { stage, waiting },
+        };
+    }
+    Stepped::NoRoom
+}
+
+// The end of the input: `bad` is put behind what waits where a first line is absent. Or no room, and nothing is put.
+pub fn finish(stage: Stage, out: &mut [u8], waiting: usize) -> Stepped
+    ensures told { λ r. ⌜ r ≡ finished (length (now (out .entry))) waiting stage ⌝ }
+    ensures inside { λ r. ⌜ stepInside (length (now (out .entry))) r ⌝ }
+    ensures written { λ _. ⌜ now (out .exit) ≡ finishedOut (now (out .entry)) waiting stage ⌝ }
+{
+    if stores::has_room(out.len(), waiting, TEXT_ROOM) {
+        return match stage {
+            Stage::First => bad_step(out, waiting),
+            Stage::Records(_) => Stepped::Next { stage, waiting },
+            Stage::Ended => Stepped::Next { stage, waiting },
+        };
+    }
+    Stepped::NoRoom
+}
+
+// Whether a bad or absent first line has ended it, so that nothing more is said whatever the input still has.
+pub fn is_ended(stage: Stage) -> bool
+    ensures { λ r. ⌜ r ≡ ended stage ⌝ }
+{
+    match stage {
+        Stage::First => false,
+        Stage::Records(_) => false,
+        Stage::Ended => true,
     }
 }

@@ -13,19 +13,19 @@ use Rattle.words.specs.Pick.{pick}
 use Rattle.hexadecimal.specs.Hexadecimal.{digits, eights, choiceOf, choiceAnswered, stored}
 use Rattle.hexadecimal.specs.declared.ChoiceLine.the-variants.{People, NoRoom}
 
-pub choice-long : (l : List ℕ) → 60000 < length l → choiceOf l ≡ none
+pub choice-long : (l : List ℕ) → 240000 < length l → choiceOf l ≡ none
 unfolding choiceOf
 choice-long l h = rw (lt-ltb _ _ h)
 
-pub choice-part : (l : List ℕ) → length l ≤ 60000 → (length l % 8 ≡ 0 → ⊥) → choiceOf l ≡ none
+pub choice-part : (l : List ℕ) → length l ≤ 240000 → (length l % 8 ≡ 0 → ⊥) → choiceOf l ≡ none
 unfolding choiceOf
 choice-part l h o = rw (le-ltb _ _ h, ne-eqb _ _ o)
 
-pub choice-other : (l : List ℕ) → length l ≤ 60000 → length l % 8 ≡ 0 → digits l ≡ false → choiceOf l ≡ none
+pub choice-other : (l : List ℕ) → length l ≤ 240000 → length l % 8 ≡ 0 → digits l ≡ false → choiceOf l ≡ none
 unfolding choiceOf
 choice-other l h o d = rw (le-ltb _ _ h, eq-eqb _ _ o, d)
 
-pub choice-good : (l : List ℕ) → length l ≤ 60000 → length l % 8 ≡ 0 → digits l ≡ true → choiceOf l ≡ some (eights (length l / 8) l)
+pub choice-good : (l : List ℕ) → length l ≤ 240000 → length l % 8 ≡ 0 → digits l ≡ true → choiceOf l ≡ some (eights (length l / 8) l)
 unfolding choiceOf
 choice-good l h o d = rw (le-ltb _ _ h, eq-eqb _ _ o, d)
 

@@ -4,7 +4,7 @@ use mathlib.Core.List.{[], _∷_, _++_}
 use mathlib.Core.Option.{none, some}
 use lib.ListN.{replicate}
 use Rattle.hexadecimal.specs.Hexadecimal.{digit, digits, byte, lineBytes, big, factsOf, eights, choiceOf, frameOf}
-use Rattle.hexadecimal.specs.declared.FactsLine.the-variants.{Facts, NoFacts}
+use Rattle.hexadecimal.specs.declared.FactsLine.the-variants.{Facts as AreFacts, NoFacts}
 
 pub record Worked : Type 0 where
   -- `0aF9`
@@ -17,7 +17,7 @@ pub record Worked : Type 0 where
   -- 7 zeros and `5`, 6 zeros and `1F`, `FFFFFFFF`, 8 zeros
   pub facts
       : factsOf (replicate 7 0x30 ++ 0x35 ∷ replicate 6 0x30 ++ 0x31 ∷ 0x46 ∷ replicate 8 0x46 ++ replicate 8 0x30)
-      ≡ Facts 5 31 0xFFFFFFFF 0
+      ≡ AreFacts (record { strings = 5; contigs = 31; people = 0xFFFFFFFF; gt = 0 })
   pub short : factsOf (replicate 31 0x30) ≡ NoFacts
   -- 31 zeros and `g`
   pub another : factsOf (replicate 31 0x30 ++ 0x67 ∷ []) ≡ NoFacts

@@ -1,5 +1,7 @@
 pub mod Choices
+pub mod Cut
 pub mod Digits
 pub mod Examples
 pub mod Frames
+pub mod Rooms
 pub mod Table

@@ -1,6 +1,6 @@
 -- Lines of hexadecimal digits, as lists of character codes: the first line's facts, the people of a choice's line, and the bytes of a
 -- record's line.
--- Rests on nothing but the choice by a test.
+-- Rests on facts, and on the choice by a test.
 use Prim.Native.Nat.{ℕ, zero, suc, _+_, _-_, _*_, _/_, _%_, _^_, _≤_}
 use mathlib.Core.List.{List, [], _∷_}
 use mathlib.Core.Bool.{Bool, true, false}
@@ -9,8 +9,9 @@ use lib.Dec.{leb, ltb, eqb}
 use lib.ListN.{length, take, drop}
 use lib.Seq.{sets}
 use Rattle.words.specs.Pick.{pick}
+use Rattle.facts.specs.declared.Facts.{Facts}
 use Rattle.hexadecimal.specs.declared.FactsLine.{FactsLine}
-use Rattle.hexadecimal.specs.declared.FactsLine.the-variants.{Facts, NoFacts}
+use Rattle.hexadecimal.specs.declared.FactsLine.the-variants.{Facts as AreFacts, NoFacts}
 use Rattle.hexadecimal.specs.declared.ChoiceLine.{ChoiceLine}
 use Rattle.hexadecimal.specs.declared.ChoiceLine.the-variants.{People, Bad as BadChoice, NoRoom as NoRoomForPeople}
 use Rattle.hexadecimal.specs.declared.Frame.{Frame}
@@ -54,23 +55,27 @@ big [] = 0
 big (c ∷ cs) = digit c * 16 ^ length cs + big cs
 
 -- the first line is 32 digits: strings, contigs, people and GT offset, eight digits each
+abbrev pub factsIn : List ℕ → Facts
+factsIn l =
+    record {
+      strings = big (take 8 l);
+      contigs = big (take 8 (drop 8 l));
+      people = big (take 8 (drop 16 l));
+      gt = big (take 8 (drop 24 l));
+    }
+
 unfoldable pub factsOf : List ℕ → FactsLine
-factsOf l =
-    pick (eqb (length l) 32)
-    (pick (digits l)
-    (Facts (big (take 8 l)) (big (take 8 (drop 8 l))) (big (take 8 (drop 16 l))) (big (take 8 (drop 24 l))))
-    NoFacts)
-    NoFacts
+factsOf l = pick (eqb (length l) 32) (pick (digits l) (AreFacts (factsIn l)) NoFacts) NoFacts
 
 -- the first so many numbers of a line of digits, eight digits each
 unfoldable pub eights : ℕ → List ℕ → List ℕ
 eights zero l = []
 eights (suc n) l = big (take 8 l) ∷ eights n (drop 8 l)
 
--- a choice's line: none where it is bad, being over 60,000 digits, not eight digits a person, or with another character; else its people
+-- a choice's line: none where it is bad, being over 240,000 digits, not eight digits a person, or with another character; else its people
 unfoldable pub choiceOf : List ℕ → Option (List ℕ)
 choiceOf l =
-    pick (ltb 60000 (length l)) none (pick (eqb (length l % 8) 0) (pick (digits l) (some (eights (length l / 8) l)) none) none)
+    pick (ltb 240000 (length l)) none (pick (eqb (length l % 8) 0) (pick (digits l) (some (eights (length l / 8) l)) none) none)
 
 -- what is answered to a choice's line, where there is room for so many people
 abbrev pub choiceAnswered : ℕ → Option (List ℕ) → ChoiceLine

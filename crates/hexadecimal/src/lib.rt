@@ -9,17 +9,16 @@ ghost use Rattle.hexadecimal.specs.Hexadecimal.{digit, valuesFrom, digit
 
 mod characters; // the value of each character as a digit
 
-// The most digits that a line may have, the first line apart.
+use facts::Facts;
+
+// The most digits that a record's line may have, and a choice's: as many people as such a record has bytes.
 const MOST_DIGITS: usize = 60000;
 
-// The first line: its four numbers, or none where it is not 32 digits.
+const MOST_CHOICE_DIGITS: usize = 240000;
+
+// The first line: the header's facts, or none where it is not 32 digits.
 pub enum FactsLine {
-    Facts {
-        strings: u32,
-        contigs: u32,
-        people: u32,
-        gt: u32,
-    },
+    Facts(Facts),
     NoFacts,
 }
 
@@ -94,12 +93,12 @@ pub fn facts_of(line: &[u8]) -> FactsLine
     if line.len() == 32 {
         let table = characters::table();
         if all_digits(&table, line) {
-            return FactsLine::Facts {
+            return FactsLine::Facts(Facts {
                 strings: number_at(&table, line, 0),
                 contigs: number_at(&table, line, 8),
                 people: number_at(&table, line, 16),
                 gt: number_at(&table, line, 24),
-            };
+            });
         }
         return FactsLine::NoFacts;
     }
@@ -128,7 +127,7 @@ pub fn read_choice(line: &[u8], choice: &mut [u32]) -> ChoiceLine
     ensures inside { λ r. ⌜ peopleInside (length (now (choice .entry))) r ⌝ }
     ensures written { λ _. ⌜ now (choice .exit) ≡ stored (now (choice .entry)) (choiceOf (now (line .entry))) ⌝ }
 {
-    if MOST_DIGITS < line.len() {
+    if MOST_CHOICE_DIGITS < line.len() {
         return ChoiceLine::Bad;
     }
     if line.len() % 8 == 0 {

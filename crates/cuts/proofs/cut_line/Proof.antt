@@ -11,7 +11,8 @@ use Rattle.hexadecimal.proofs.Frames.{told}
 use Rattle.frames.proofs.Answers.{frame-bad}
 use Rattle.cuts.specs.Cuts.{cut, cutOut, cutFrom, cutKept}
 use Rattle.cuts.proofs.Cuts.{cut-bytes, cut-bad, said-as, saidIn-as}
-use Rattle.cuts.proofs.Rooms.{rooms, frame-most, frame-room}
+use Rattle.hexadecimal.proofs.Rooms.{frame-most, frame-room}
+use Rattle.cuts.proofs.Rooms.{rooms}
 use borrow.Author.Needs.{needs}
 use Rattle.cuts.proofs.cut_line.Statement.{statement}
 use Rattle.cuts.proofs.cut_line.Tie as tie

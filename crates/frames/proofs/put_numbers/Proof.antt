@@ -1,11 +1,11 @@
 -- `frames::put_numbers` meets its contract. The loop's invariant: the numbers are stored as those that are left, which have room.
 use mathlib.Core.Path.{_≡_, _∙_, ap, sym}
 use mathlib.Core.List.{[]}
-use Prim.Native.Nat.{ℕ, suc, _+_, _-_, _*_, _≤_}
+use Prim.Native.Nat.{suc, _+_, _-_, _*_, _≤_}
 use lib.ListN.{drop, getD, length, set, drop-of-length-le, length-append, length-set}
 use lib.Seq.{sets, length-sets}
 use Rattle.decimal.specs.Decimal.{decimal}
-use Rattle.decimal.specs.declared.Put.the-variants.{At, NoRoom}
+use Rattle.decimal.specs.declared.Put.the-variants.{At}
 use Rattle.decimal.proofs.Decimal.{twenty}
 use native.Mathlib.Omega.{arith}
 use Rattle.frames.specs.Text.{spaced}
@@ -16,6 +16,7 @@ use Rattle.frames.proofs.put_numbers.Statement.{statement}
 use Rattle.frames.proofs.put_numbers.Tie as tie
 use Rattle.frames.proofs.put_numbers.Reads as reads
 use Rattle.frames.proofs.put_numbers.Lts as lts
+use Rattle.decimal.proofs.place_after.Reads as place-after-reads
 use Rattle.decimal.proofs.put_decimal.Reads as put-decimal-reads
 
 abbrev Inv-loop : tie.InvT-loop
@@ -47,35 +48,8 @@ shared-slice-read-put-decimal c = search needs
 put-decimal-requires : tie.Need-put-decimal-requires Inv-loop μ-loop
 put-decimal-requires c κs = search needs
 
-enum-known-p : tie.Need-enum-known-p Inv-loop μ-loop
-enum-known-p c = search needs
-
-enum-told : tie.Need-enum-told Inv-loop μ-loop
-enum-told c = search needs
-
--- the bound of the numbers' text leaves room at each turn
-no-room : (c : tie.After-enum-told Inv-loop μ-loop) → ⊥
-no-room c =
-    let a = c .before .before .before .before .before .before .before .before .before .before .before .args in
-    let l = c .before .before .before .before .before .before .before .before .loop in
-    let ns = a .numbers .now in
-    let o = set (l .out) (l .at) 0x20 in
-    let n = getD ns (l .i) 0 in
-    let h = c .before .before .before .before .before .before .before .loop-test .taken in
-    let t : length (decimal n) ≤ 20 = twenty n (c .before .before .before .before .before .shared-slice-known2 .given (l .i) .fits) in
-    let g : length o ≡ length (a .out .now) = rw length-set (l .inv .3) in
-    let r : a .from + length ns * 21 ≤ length (a .out .now) = c .before .before .before .before .before .before .before .before .before .before .before .pre in
-    let q : l .at + 1 + length (decimal n) ≤ length o = omega (arith, l .inv .2) in
-    let told : c .before .before .before .before .put-decimal .result ≡ At (l .at + 1 + length (decimal n)) = c .before .before .before .before .put-decimal .ensures .0 ∙ placed-room (length o) (l .at + 1) (decimal n) q in
-    let none : c .before .before .before .before .put-decimal .result ≡ NoRoom = c .enum-told .given .1 in
-    let z : _≡_ {A = ℕ} 0 1 = cc in
-    omega arith
-
-same-length : tie.Need-same-length Inv-loop μ-loop
-same-length c = absurd (no-room c)
-
-returns : tie.Need-returns Inv-loop μ-loop
-returns c = absurd (no-room c)
+place-after-requires : tie.Need-place-after-requires Inv-loop μ-loop
+place-after-requires c κs = search needs
 
 add-i : tie.Need-add-i Inv-loop μ-loop
 add-i c = search needs
@@ -85,21 +59,20 @@ loop-less c = search needs
 
 loop-again : tie.Need-loop-again Inv-loop μ-loop
 loop-again c =
-    let a = c .before .before .before .before .before .before .before .before .before .before .before .before .args in
-    let l = c .before .before .before .before .before .before .before .before .before .loop in
+    let a = c .before .before .before .before .before .before .before .before .before .before .args in
+    let l = c .before .before .before .before .before .before .before .loop in
     let ns = a .numbers .now in
     let o = set (l .out) (l .at) 0x20 in
     let n = getD ns (l .i) 0 in
-    let h = c .before .before .before .before .before .before .before .before .loop-test .taken in
-    let t : length (decimal n) ≤ 20 = twenty n (c .before .before .before .before .before .before .shared-slice-known2 .given (l .i) .fits) in
+    let h = c .before .before .before .before .before .before .loop-test .taken in
+    let t : length (decimal n) ≤ 20 = twenty n (c .before .before .before .before .shared-slice-known2 .given (l .i) .fits) in
     let g : length o ≡ length (a .out .now) = rw length-set (l .inv .3) in
-    let r : a .from + length ns * 21 ≤ length (a .out .now) = c .before .before .before .before .before .before .before .before .before .before .before .before .pre in
+    let r : a .from + length ns * 21 ≤ length (a .out .now) = c .before .before .before .before .before .before .before .before .before .before .pre in
     let q : l .at + 1 + length (decimal n) ≤ length o = omega (arith, l .inv .2) in
-    let told : c .before .before .before .before .before .put-decimal .result ≡ At (l .at + 1 + length (decimal n)) = c .before .before .before .before .before .put-decimal .ensures .0 ∙ placed-room (length o) (l .at + 1) (decimal n) q in
-    let x = c .before .p .given .0 .0 in
-    let at : c .before .before .before .before .before .put-decimal .result ≡ At x = c .before .p .given .1 in
-    let v : x ≡ l .at + 1 + length (decimal n) = cc in
-    let w : c .before .before .before .before .before .put-decimal .last .0 ≡ sets o (l .at + 1) (decimal n) = c .before .before .before .before .before .put-decimal .ensures .1 .1 ∙ filled-room o (l .at + 1) (decimal n) q in
+    let told : c .before .before .before .put-decimal .result ≡ At (l .at + 1 + length (decimal n)) = c .before .before .before .put-decimal .ensures .0 ∙ placed-room (length o) (l .at + 1) (decimal n) q in
+    let x = c .place-after .result in
+    let v : x ≡ l .at + 1 + length (decimal n) = c .place-after .ensures ∙ rw told in
+    let w : c .before .before .before .put-decimal .last .0 ≡ sets o (l .at + 1) (decimal n) = c .before .before .before .put-decimal .ensures .1 .1 ∙ filled-room o (l .at + 1) (decimal n) q in
     let s = ap length (spaced-turn ns (l .i) h) ∙ ap suc (length-append (decimal n) (spaced (drop (l .i + 1) ns))) in (
       l .inv .0 ∙ rw (w, v) (spaced-stored (l .out) ns (l .at) (l .i) h),
       omega (arith, l .inv .1, s),
@@ -108,12 +81,12 @@ loop-again c =
       omega (arith, h),
     )
 
-same-length-2 : tie.Need-same-length-2 Inv-loop μ-loop
-same-length-2 c = search needs
+same-length : tie.Need-same-length Inv-loop μ-loop
+same-length c = search needs
 
-returns-2 : tie.Need-returns-2 Inv-loop μ-loop
+returns : tie.Need-returns Inv-loop μ-loop
 unfolding spaced
-returns-2 c =
+returns c =
     let l = c .before .loop in
     let a = c .before .before .before .before .args in
     let e : drop (l .i) (a .numbers .now) ≡ [] = drop-of-length-le (a .numbers .now) (c .loop-test .left) in
@@ -133,12 +106,9 @@ put-numbers-spec =
     mul-put-decimal
     shared-slice-read-put-decimal
     put-decimal-requires
-    enum-known-p
-    enum-told
-    same-length
-    returns
+    place-after-requires
     add-i
     loop-less
     loop-again
-    same-length-2
-    returns-2)
+    same-length
+    returns)

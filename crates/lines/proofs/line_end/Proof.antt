@@ -13,7 +13,7 @@ use Rattle.lines.proofs.line_end.Lts as lts
 
 abbrev Inv-loop : tie.InvT-loop
 Inv-loop piece from at₀ at =
-    (from + lineLength (drop from piece) ≡ at + lineLength (drop at piece)) × (at ≤ from + (length piece - from))
+    (from + lineLength (drop from piece) ≡ at + lineLength (drop at piece)) × (from ≤ at) × (at ≤ from + (length piece - from))
 
 abbrev μ-loop : tie.MeasureT-loop
 μ-loop piece from at₀ at =
@@ -29,7 +29,7 @@ returns : tie.Need-returns Inv-loop μ-loop
 returns c =
     let l = c .before .before .before .loop in
     let e = length-here (c .before .before .before .before .args .piece .now) (l .at) (c .before .before .loop-test .taken) (c .if1 .taken) in
-    (omega (arith, l .inv, e), l .inv .1)
+    (omega (arith, l .inv, e), (l .inv .1, l .inv .2))
 
 add-at : tie.Need-add-at Inv-loop μ-loop
 add-at c = search needs
@@ -41,13 +41,13 @@ loop-again : tie.Need-loop-again Inv-loop μ-loop
 loop-again c =
     let l = c .before .before .before .loop in
     let e = length-later (c .before .before .before .before .args .piece .now) (l .at) (c .before .before .loop-test .taken) (c .if1 .left) in
-    (omega (arith, l .inv, e), omega (arith, l .inv))
+    (omega (arith, l .inv, e), omega (arith, l .inv), omega (arith, l .inv))
 
 returns-2 : tie.Need-returns-2 Inv-loop μ-loop
 returns-2 c =
     let l = c .before .loop in
     let e = length-end (c .before .before .args .piece .now) (l .at) (c .loop-test .left) in
-    (omega (arith, l .inv, e), l .inv .1)
+    (omega (arith, l .inv, e), (l .inv .1, l .inv .2))
 
 pub line-end-spec : {M : Type 1} → statement M
 line-end-spec =
