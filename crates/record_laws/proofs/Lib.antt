@@ -1,4 +1,6 @@
+pub mod Accepts
 pub mod After
+pub mod Kept
 pub mod Rules
 pub mod Told
 pub mod Vectors

@@ -69,7 +69,7 @@ marked-reserved low last x h k =
     rw (le-ltb x low (omega arith), le-ltb last x k, ne-eqb x low (λ e. omega arith), ne-eqb (x - low) 1 (λ e. omega arith))
 
 -- by the kind of what is shown
-kind-end : (k : Kind) (x : ℕ) → kind (givenAs k) x ≡ End → x ≡ endMark k
+pub kind-end : (k : Kind) (x : ℕ) → kind (givenAs k) x ≡ End → x ≡ endMark k
 unfolding kind
 kind-end integers x h = marked-end 0x80000000 0x80000007 x h
 kind-end floats x h = marked-end 0x7F800001 0x7F800007 x h
@@ -79,7 +79,7 @@ kind-end text x h = by-test (eqb x 0) refl h
     by-test true e h = eqb-true x 0 e
     by-test false e h = cc
 
-end-kind : (k : Kind) → kind (givenAs k) (endMark k) ≡ End
+pub end-kind : (k : Kind) → kind (givenAs k) (endMark k) ≡ End
 unfolding kind marked
 end-kind integers = refl
 end-kind floats = refl
@@ -92,7 +92,7 @@ reserved-kind floats x h = marked-reserved 0x7F800001 0x7F800007 x (h .0) (h .1)
 reserved-kind text x h = absurd h
 
 -- an element that is not refused: an end of vector, the missing mark, or a plain one up to the most
-data Passes (most t x : ℕ) : Type 0 where
+pub data Passes (most t x : ℕ) : Type 0 where
   at-end : kind t x ≡ End → Passes most t x
   at-missing : kind t x ≡ Missing → Passes most t x
   at-plain : kind t x ≡ Plain → x ≤ most → Passes most t x
@@ -196,7 +196,7 @@ people-runs most t (suc len) people xs e h i q =
     given-runs most t (suc len) people xs (rw n at h) i q
 
 -- what holds of each person's elements holds of all
-all-people : (P : ℕ → Type 0) (len n : ℕ) (xs : List ℕ) → length xs ≡ n * len → ((i : ℕ) → i < n → All P (vectorOf len i xs)) → All P xs
+pub all-people : (P : ℕ → Type 0) (len n : ℕ) (xs : List ℕ) → length xs ≡ n * len → ((i : ℕ) → i < n → All P (vectorOf len i xs)) → All P xs
 all-people P len zero [] e h = tt
 all-people P len zero (x ∷ xs) e h = absurd (omega (arith, zero-mul len))
 all-people P len (suc n) xs e h =
