@@ -29,7 +29,7 @@ pub record Readings : Type 0 where
   pub shows : (f : Facts) (s : List ℕ) (t : Site) (g : Gt) → reading f s ≡ Accepted t g → ShownFetched f s t
   -- and it keeps each of 01's rules
   pub rules : (f : Facts) (s : List ℕ) (t : Site) (g : Gt) → Bytes s → reading f s ≡ Accepted t g → Rules f (shownOf t s)
-  -- of which none is left out: whatever keeps them, and is written in at most 16,777,216 bytes, is accepted as it is written, and shows just that
+  -- and nothing besides is asked: whatever keeps them, and is written in at most 16,777,216 bytes, is accepted as it is written, and shows just that
   pub accepts : (f : Facts) (r : Shown) → Rules f r → length (recordBytes (f .people) r) ≤ mostBytes → Tightened f r
   -- bytes after the record belong to the next one: whatever follows its own 8 + l_shared + l_indiv bytes, and with nothing behind them, the answer is
   -- the same, refusals included
