@@ -7,7 +7,7 @@ use Rattle.refusal_laws.specs.Numbers.{allGive, table}
 use Rattle.refusal_laws.proofs.Among.{among-wider}
 use Rattle.refusal_laws.proofs.Reading.{reading-refused}
 use Rattle.refusal_laws.proofs.AfterReading.{field-refused, found-refused, fetched-refused, opened-refused, tallied-refused, choosing-refused}
-use Rattle.refusal_laws.proofs.Turns.{made-of-one, begun-refuses, id-refuses, allele-refuses, filter-refuses, info-refuses, format-refuses, end-refuses}
+use Rattle.refusal_laws.proofs.Turns.{made-of, begun-refuses, id-refuses, allele-refuses, filter-refuses, info-refuses, format-refuses, end-refuses}
 use Rattle.refusal_laws.proofs.Answers.{reading-answered, found-answered, field-answered, opening-halves, pair-answered, shown-halves, tally-answered, choosing-answered, fresh-answered, turn-answered}
 use Rattle.laws.specs.Refusals.{Refusals}
 
@@ -22,7 +22,7 @@ refusals =
       opens = opened-refused;
       tallies = tallied-refused;
       chooses = choosing-refused;
-      turns = made-of-one;
+      turns = made-of;
       begins = begun-refuses;
       id = id-refuses;
       allele = allele-refuses;

@@ -2,7 +2,7 @@
 -- was. Rests on refusal_laws for the numbers of each function and for what is said of a refusal, and on the definitions of each answer.
 use Prim.Native.Nat.{ℕ}
 use mathlib.Core.Path.{_≡_}
-use mathlib.Core.List.{List, [], _∷_, _++_}
+use mathlib.Core.List.{List, [], _++_}
 use mathlib.Core.Bool.{true}
 use lib.Dec.{eqb}
 use lib.ListN.{length}
@@ -33,7 +33,7 @@ use Rattle.c_answers.specs.Told.{readingAnswer, readingNumbers, foundAnswer, fo
 use Rattle.c_state.specs.Kept.{turnAnswer, turnNumbers, freshAnswer, freshNumbers}
 use Rattle.refusal_laws.specs.Numbers.{readingGives, fetchingGives, tallyGives, choosingGives, beginGives, idGives, alleleGives, filterGives, infoGives, formatGives, endGives, tellingGives, allGive, table}
 use Rattle.record_laws.specs.Told.{ownLength}
-use Rattle.refusal_laws.specs.Refused.{InRecord, AtStart, AfterReading, Refuses, Halves, Answered}
+use Rattle.refusal_laws.specs.Refused.{InRecord, AtStart, AfterReading, MadeOf, Refuses, Halves, Answered}
 
 pub record Refusals : Type 0 where
   -- the numbers of all functions together are 01's table
@@ -52,10 +52,8 @@ pub record Refusals : Type 0 where
   -- choosing: reading's, or then 14 or 13 at place 0; and the buffer as it was
   pub chooses : (f : Facts) (cs buf s : List ℕ) (r : Refusal) → choosing f cs (length buf) s ≡ Unchosen r
       → AfterReading choosingGives f s r × (afterChoosing f cs buf s ≡ buf)
-  -- a turn of building is made of one number: with 0 it is taken; with another it is refused with that number at place 0, and the state and the
-  -- buffer are as they were
-  pub turns : (numbers : List ℕ) (st next : Builder) (n : ℕ) (buf new : List ℕ) → among n (0 ∷ numbers) ≡ true
-      → Refuses numbers st buf (turned st n next) (pick (eqb n 0) new buf)
+  -- a turn of building is made of one number
+  pub turns : (st next : Builder) (n : ℕ) (buf new : List ℕ) → MadeOf n st next buf new (turned st n next) (pick (eqb n 0) new buf)
   -- so each turn is refused with the numbers of its own list. What ID and INFO are given is 32 bits an element, or bytes of text
   pub begins : (st : Builder) (buf : List ℕ) (f : Facts) (chrom pos rlen qual : ℕ)
       → Refuses beginGives st buf (begun st (length buf) f chrom pos rlen qual) (afterBegin st buf f chrom pos rlen qual)

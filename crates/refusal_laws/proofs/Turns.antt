@@ -9,7 +9,7 @@ use native.Mathlib.Omega.{arith}
 use lib.Dec.{ltb, leb, eqb}
 use lib.ListN.{length, take, drop}
 use lib.Seq.{sets}
-use borrow.Author.Tests.{ltb-true, eqb-false, ne-eqb}
+use borrow.Author.Tests.{ltb-true, eqb-true, eqb-false, eq-eqb, ne-eqb}
 use Rattle.words.specs.Lists.{among}
 use Rattle.words.specs.Pick.{pick}
 use Rattle.words.specs.Words.{outside}
@@ -33,33 +33,44 @@ use Rattle.build_rules.specs.Rules.{ordered, countNumber, reachNumber, keyNumbe
 use Rattle.build.specs.Order.{rank, turned, appended, afterwards}
 use Rattle.build.specs.Turns.{beginNumber, begun, afterBegin, idNumber, idGiven, afterId, alleleRules, alleleGiven, afterAllele, filterRules, filterGiven, afterFilter, infoKey, infoRules, infoGiven, afterInfo, formatCount, formatRules, formatGiven, afterFormat, endNumber, built, afterEnd}
 use Rattle.build.specs.declared.Builder.{Builder}
-use Rattle.build.specs.declared.Answer.the-variants.{Taken, Refused}
 use Rattle.build.specs.declared.Turned.{Turned}
 use Rattle.build_laws.specs.Records.{All, Fit}
 use Rattle.refusal_laws.specs.Numbers.{beginGives, idGives, alleleGives, filterGives, infoGives, formatGives, endGives}
-use Rattle.refusal_laws.specs.Refused.{Refuses}
+use Rattle.refusal_laws.specs.Refused.{MadeOf, Kept, Refuses}
 use Rattle.refusal_laws.proofs.Among.{either, allAmong, among-wider, among-behind, first-among}
 use Rattle.refusal_laws.proofs.Values.{judgedTold, elementGives, turn-told, vector-told, and-told}
 use Rattle.refusal_laws.proofs.Blocks.{bytes-told, filters-told}
 
--- a turn that is taken, and one that is refused with a number
-abbrev takenTurn : Builder → Turned
-takenTurn next = record { state = next; answer = Taken }
+-- the law of a turn: its answer, its state and its buffer are made of one number
+pub made-of : (st next : Builder) (n : ℕ) (buf new : List ℕ) → MadeOf n st next buf new (turned st n next) (pick (eqb n 0) new buf)
+unfolding turned
+made-of st next n buf new =
+    record {
+      taken = λ e. (rw (eq-eqb n 0 e), rw (eq-eqb n 0 e), rw (eq-eqb n 0 e));
+      refused = λ e. (rw (ne-eqb n 0 e), rw (ne-eqb n 0 e), rw (ne-eqb n 0 e));
+    }
 
-abbrev refusedTurn : Builder → ℕ → Turned
-refusedTurn st n = record { state = st; answer = Refused (refusal n 0) }
-
--- the law of a turn: its answer, its state and its buffer are made of one number, 0 where it is taken
-pub made-of-one : (numbers : List ℕ) (st next : Builder) (n : ℕ) (buf new : List ℕ) → among n (0 ∷ numbers) ≡ true
-    → Refuses numbers st buf (turned st n next) (pick (eqb n 0) new buf)
-unfolding turned among
-made-of-one numbers st next n buf new h = by-test (eqb n 0) (λ e. rw (ne-eqb 0 n (λ z. eqb-false n 0 e (sym z))) at h)
+-- so it is refused with the numbers that this one may be
+made-refuses : (numbers : List ℕ) (n : ℕ) (st next : Builder) (buf new : List ℕ) (t : Turned) (after : List ℕ) → MadeOf n st next buf new t after
+    → among n (0 ∷ numbers) ≡ true → Refuses numbers st buf t after
+unfolding among
+made-refuses numbers n st next buf new t after m h r k = by-test (eqb n 0) refl
   where
-    by-test : (b : Bool) → (b ≡ false → among n numbers ≡ true) → Refuses numbers st buf (pick b (takenTurn next) (refusedTurn st n)) (pick b new buf)
-    by-test true a r k = let z : _≡_ {A = ℕ} 0 1 = cc in absurd (omega arith)
-    by-test false a r k =
-        let e : refusal n 0 ≡ r = cc in
-        record { told = rw (← e) (record { number = a refl; place = refl }); state = refl; buffer = refl }
+    by-test : (b : Bool) → eqb n 0 ≡ b → Kept numbers st buf t after r
+    by-test true e =
+        let d = m .taken (eqb-true n 0 e) in
+        let z : _≡_ {A = ℕ} 0 1 = cc (d .0, k) in
+        absurd (omega arith)
+    by-test false e =
+        let d = m .refused (eqb-false n 0 e) in
+        let same : refusal n 0 ≡ r = cc (d .0, k) in
+        let one = rw (ne-eqb 0 n (λ z. eqb-false n 0 e (sym z))) at h in
+        record { told = rw (← same) (record { number = one; place = refl }); state = d .1; buffer = d .2 }
+
+made-of-one : (numbers : List ℕ) (st next : Builder) (n : ℕ) (buf new : List ℕ) → among n (0 ∷ numbers) ≡ true
+    → Refuses numbers st buf (turned st n next) (pick (eqb n 0) new buf)
+made-of-one numbers st next n buf new h =
+    made-refuses numbers n st next buf new (turned st n next) (pick (eqb n 0) new buf) (made-of st next n buf new) h
 
 -- 0, or one of these numbers
 abbrev NoneOr : List ℕ → ℕ → Type 0

@@ -7,13 +7,14 @@ use mathlib.Core.List.{List, _∷_, _++_}
 use mathlib.Core.Bool.{true}
 use lib.ListN.{length}
 use Rattle.words.specs.Lists.{among}
+use Rattle.values.specs.Answers.{refusal}
 use Rattle.values.specs.declared.Refusal.{Refusal}
 use Rattle.record_laws.specs.Told.{ownLength}
 use Rattle.facts.specs.declared.Facts.{Facts}
 use Rattle.record.specs.Reading.{reading}
 use Rattle.record.specs.declared.Reading.the-variants.{Refused as Unread}
 use Rattle.build.specs.declared.Builder.{Builder}
-use Rattle.build.specs.declared.Answer.the-variants.{Refused}
+use Rattle.build.specs.declared.Answer.the-variants.{Taken, Refused}
 use Rattle.build.specs.declared.Turned.{Turned}
 use Rattle.refusal_laws.specs.Numbers.{readingGives}
 
@@ -37,6 +38,12 @@ pub record AtStart (numbers : List ℕ) (r : Refusal) : Type 0 where
 pub record AfterReading (numbers : List ℕ) (f : Facts) (s : List ℕ) (r : Refusal) : Type 0 where
   pub own : (reading f s ≡ Unread r) ⊎ AtStart numbers r
   pub told : InRecord (readingGives ++ numbers) s r
+
+-- a turn that is made of one number: with 0 it is taken, and gives the next state and the new buffer; with another it is refused with that number at
+-- place 0, and the state and the buffer are as they were
+pub record MadeOf (n : ℕ) (st next : Builder) (buf new : List ℕ) (t : Turned) (after : List ℕ) : Type 0 where
+  pub taken : n ≡ 0 → (t .answer ≡ Taken) × (t .state ≡ next) × (after ≡ new)
+  pub refused : n ≢ 0 → (t .answer ≡ Refused (refusal n 0)) × (t .state ≡ st) × (after ≡ buf)
 
 -- a turn that is refused: one of these numbers at place 0, and the state and the buffer as they were
 pub record Kept (numbers : List ℕ) (st : Builder) (buf : List ℕ) (t : Turned) (after : List ℕ) (r : Refusal) : Type 0 where
