@@ -41,8 +41,9 @@ use Rattle.build.specs.declared.Builder.{Builder}
 use Rattle.build.specs.declared.Answer.{Answer}
 use Rattle.build.specs.declared.Answer.the-variants.{Taken, Refused}
 use Rattle.build.specs.declared.Turned.{Turned}
+use Rattle.build.specs.Answers.{answerNumber}
 use Rattle.c_answers.specs.Told.{answer, refusedAnswer, toldAnswer, siteNumbers, readingAnswer, readingNumbers, fieldNumbers, foundAnswer, foundNumbers, pairAnswer, pairNumbers, openingAnswer, shownAnswer, tallyNumbers, countingAnswer, countingNumbers, talliedAnswer, talliedNumbers, choosingAnswer}
-use Rattle.c_state.specs.Kept.{stateNumbers, answeredWith, turnAnswer, heldAfter, turnNumbers, freshAnswer, freshNumbers}
+use Rattle.c_state.specs.Kept.{stateNumbers, turnLow, turnAnswer, heldAfter, turnNumbers, freshAnswer, freshNumbers}
 use Rattle.refusal_laws.specs.Numbers.{readingGives, fetchingGives, tallyGives, choosingGives, tellingGives}
 use Rattle.record_laws.specs.Told.{ownLength}
 use Rattle.refusal_laws.specs.Refused.{Told, InRecord, AtStart, Refuses, Halves, Answered}
@@ -181,10 +182,12 @@ fresh-answered ns = tells tellingGives 0 0 ns (stateNumbers freshState) refl
 
 pub turn-answered : (numbers : List ℕ) (st : Builder) (buf ns after : List ℕ) (t : Turned) → Refuses numbers st buf t after
     → Answered numbers 0 (turnAnswer t) ns (turnNumbers ns t) × Answered numbers 0 (turnAnswer t) buf after
+unfolding refusedAnswer
 turn-answered numbers st buf ns after t h = by-answer (t .answer) refl
   where
     by-answer : (a : Answer) → t .answer ≡ a
-        → Answered numbers 0 (answeredWith (t .state) a) ns (heldAfter ns (t .state) a) × Answered numbers 0 (answeredWith (t .state) a) buf after
+        → Answered numbers 0 (answer (answerNumber a) (turnLow (t .state) a)) ns (heldAfter ns (t .state) a)
+        × Answered numbers 0 (answer (answerNumber a) (turnLow (t .state) a)) buf after
     by-answer Taken e = (accepted numbers 0 (t .state .at) ns _, accepted numbers 0 (t .state .at) buf after)
     by-answer (Refused r) e =
         let k = h r e in
