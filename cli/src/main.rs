@@ -1,0 +1,69 @@
+//! `sikalumdo`: BCF files checked, tallied, cut to some people, and a release audited. What a record may be is for the
+//! proved library to say; this program knows the header's names and cuts the file into records.
+
+mod args;
+mod check;
+mod cut;
+mod header;
+mod help;
+mod leavers;
+mod names;
+mod output;
+mod people;
+mod place;
+mod progress;
+mod records;
+mod release;
+mod source;
+mod stop;
+mod tally;
+mod totals;
+mod unpack;
+mod work;
+
+use std::process::ExitCode;
+
+use args::Asked;
+use help::{COMMANDS, PROGRAM};
+use output::Output;
+use stop::{Outcome, Stop};
+
+/// Does what the words ask, and answers the exit status.
+fn run(words: &[String]) -> Outcome<u8> {
+    let Some((name, rest)) = words.split_first() else {
+        return Err(Stop::usage("no command; expected check, tally, cut or audit; see sikalumdo -h"));
+    };
+    if name == "-h" || name == "--help" {
+        Output::standard()?.put(PROGRAM.as_bytes())?;
+        return Ok(0);
+    }
+    if name == "--version" {
+        Output::standard()?.put(concat!("sikalumdo ", env!("CARGO_PKG_VERSION"), "\n").as_bytes())?;
+        return Ok(0);
+    }
+    let Some(command) = COMMANDS.iter().find(|command| command.name == name) else {
+        return Err(Stop::usage(format!("no command '{name}'; expected check, tally, cut or audit; see sikalumdo -h")));
+    };
+    let asked = Asked::parse(command, rest)?;
+    if asked.help {
+        Output::standard()?.put(command.help.as_bytes())?;
+        return Ok(0);
+    }
+    match command.name {
+        "check" => check::check(&asked),
+        "cut" => cut::cut(&asked),
+        _ => tally::tally(&asked),
+    }
+}
+
+fn main() -> ExitCode {
+    let words: Vec<String> = std::env::args_os().skip(1).map(|word| word.to_string_lossy().into_owned()).collect();
+    match run(&words) {
+        Ok(status) => ExitCode::from(status),
+        Err(stop) => {
+            // Where nobody hears it, the exit status still says it.
+            let _ = output::say(&format!("sikalumdo: {}\n", stop.words));
+            ExitCode::from(stop.status)
+        }
+    }
+}

@@ -1,0 +1,41 @@
+//! How messages name a record: its number, and contig and position where they can be read.
+
+use sikalumdo::{Facts, Refusal};
+
+use crate::header::{shown, Header};
+use crate::records::Entry;
+
+/// Where CHROM and POS stand, four bytes each.
+const CHROM: usize = 8;
+const POS: usize = 12;
+
+fn word(bytes: &[u8], at: usize) -> Option<i32> {
+    bytes.get(at..)?.first_chunk().map(|four| i32::from_le_bytes(*four))
+}
+
+/// The contig's name and the one-based position that a record says, accepted or not.
+pub fn place<'h>(header: &'h Header, bytes: &[u8]) -> Option<(&'h [u8], i64)> {
+    let offset = u32::try_from(word(bytes, CHROM)?).ok()?;
+    let position = i64::from(word(bytes, POS)?) + 1;
+    Some((header.contigs.name(offset)?, position))
+}
+
+/// A record in words, as `record 17 (20:14370)`.
+pub fn record_words(header: &Header, entry: &Entry) -> String {
+    match place(header, entry.bytes) {
+        Some((contig, position)) => format!("record {} ({}:{position})", entry.number, shown(contig)),
+        None => format!("record {}", entry.number),
+    }
+}
+
+/// What the library refuses a record for, in words.
+pub fn refusal_words(header: &Header, entry: &Entry, refusal: &Refusal) -> String {
+    let Refusal { number, place } = *refusal;
+    let (record, rule) = (record_words(header, entry), refusal.words());
+    format!("{record} at byte {}: refusal {number} at byte {place} of the record: {rule}", entry.at)
+}
+
+/// The same facts with another number of people.
+pub fn with_people(facts: &Facts, people: usize) -> Facts {
+    Facts { people: people as u32, ..*facts }
+}
