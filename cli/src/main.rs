@@ -2,9 +2,15 @@
 //! proved library to say; this program knows the header's names and cuts the file into records.
 
 mod args;
+mod audit;
 mod check;
+mod checksum;
+mod compare;
 mod cut;
+mod differences;
+mod explain;
 mod header;
+mod headers;
 mod help;
 mod leavers;
 mod names;
@@ -13,12 +19,15 @@ mod people;
 mod place;
 mod progress;
 mod records;
+mod recount;
 mod release;
+mod report;
 mod source;
 mod stop;
 mod tally;
 mod totals;
 mod unpack;
+mod walk;
 mod work;
 
 use std::process::ExitCode;
@@ -52,6 +61,7 @@ fn run(words: &[String]) -> Outcome<u8> {
     match command.name {
         "check" => check::check(&asked),
         "cut" => cut::cut(&asked),
+        "audit" => audit::audit(&asked),
         _ => tally::tally(&asked),
     }
 }

@@ -1,6 +1,6 @@
 //! How messages name a record: its number, and contig and position where they can be read.
 
-use sikalumdo::{Facts, Refusal};
+use sikalumdo::Refusal;
 
 use crate::header::{shown, Header};
 use crate::records::Entry;
@@ -33,9 +33,4 @@ pub fn refusal_words(header: &Header, entry: &Entry, refusal: &Refusal) -> Strin
     let Refusal { number, place } = *refusal;
     let (record, rule) = (record_words(header, entry), refusal.words());
     format!("{record} at byte {}: refusal {number} at byte {place} of the record: {rule}", entry.at)
-}
-
-/// The same facts with another number of people.
-pub fn with_people(facts: &Facts, people: usize) -> Facts {
-    Facts { people: people as u32, ..*facts }
 }

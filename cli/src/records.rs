@@ -49,6 +49,12 @@ fn length(bytes: &[u8]) -> Option<u64> {
     Some(LENGTHS as u64 + u64::from(shared) + u64::from(indiv))
 }
 
+/// The bytes of a record's site block, by the first of its two lengths.
+pub fn site_block(bytes: &[u8]) -> Option<&[u8]> {
+    let shared = u32::from_le_bytes(*bytes.first_chunk()?);
+    bytes.get(LENGTHS..)?.get(..shared as usize)
+}
+
 impl Records {
     /// The records of a source that stands at the first of them.
     pub fn new(source: Source, threads: usize) -> Records {
