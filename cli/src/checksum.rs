@@ -22,11 +22,12 @@ pub struct Named {
 }
 
 impl Checksum {
-    /// Starts the computing; standard input has none.
+    /// Starts the computing. Standard input and a pipe have none: reading them would take their bytes away.
     pub fn start(path: &str) -> Checksum {
         let mut command = Command::new("sha256sum");
         command.arg("--").arg(path).stdin(Stdio::null()).stdout(Stdio::piped()).stderr(Stdio::null());
-        let child = if path == "-" { None } else { command.spawn().ok() };
+        let is_file = path != "-" && fs::metadata(path).is_ok_and(|known| known.is_file());
+        let child = if is_file { command.spawn().ok() } else { None };
         Checksum { name: called(path), child }
     }
 

@@ -134,9 +134,14 @@ fn people(name: &str, columns: &Line) -> Outcome<Vec<Vec<u8>>> {
     Ok(people)
 }
 
-/// Bytes of the header as text that can be printed.
+/// Bytes of a file as text for a line of a message.
 pub fn shown(bytes: &[u8]) -> String {
-    String::from_utf8_lossy(bytes).escape_debug().to_string()
+    let text = String::from_utf8_lossy(bytes);
+    let one_line = |character: char| match character.is_control() {
+        true => character.escape_default().to_string(),
+        false => character.to_string(),
+    };
+    text.chars().map(one_line).collect()
 }
 
 impl Header {
