@@ -113,6 +113,7 @@ pub fn cut(asked: &Asked) -> Outcome<u8> {
     release.finish()?;
     if !asked.quiet {
         let (stay, left) = (choice.stay.len(), choice.leave.len());
+        let place = if place == "-" { "standard output" } else { place };
         say(&format!("{place}: {} records, {refused} left out; {stay} people stay, {left} left\n", count - refused))?;
     }
     Ok(0)

@@ -2,11 +2,12 @@
 
 use std::collections::{BTreeSet, HashMap};
 
-use crate::names::{quoted, settings};
+use crate::names::{setting, settings};
 
-/// The kinds of line that records or readers need. Their own words, such as `ID=20`, are no names of people; the text in
-/// quotes may name one.
+/// The kinds of line that records or readers need.
 const NEEDED: [&str; 5] = ["FILTER", "INFO", "FORMAT", "contig", "ALT"];
+/// What such a line sets that is no text about people: a contig `20` is not the person of that name.
+const OWN_WORDS: [&[u8]; 5] = [b"ID", b"Number", b"Type", b"IDX", b"length"];
 
 /// The names of everybody, with whether each leaves.
 pub struct Leavers<'h> {
@@ -61,7 +62,7 @@ impl<'h> Leavers<'h> {
         let mut at = 0;
         while at < text.len() {
             let begins = at.checked_sub(1).is_none_or(|before| !in_word(text.get(before)));
-            match self.at(text, at).filter(|_| begins) {
+            match begins.then(|| self.at(text, at)).flatten() {
                 Some((name, true)) => return Some(name),
                 Some((name, false)) => at += name.len().max(1),
                 None => at += 1,
@@ -74,20 +75,20 @@ impl<'h> Leavers<'h> {
     pub fn named(&self, line: &[u8]) -> Option<&'h [u8]> {
         match need(line) {
             Need::None => self.in_text(line),
-            Need::Needed => self.in_quotes(line),
+            Need::Needed => self.in_settings(line),
         }
     }
 
-    fn in_quotes(&self, line: &[u8]) -> Option<&'h [u8]> {
-        let mut rest = line;
-        while let Some(at) = rest.iter().position(|&byte| byte == b'"') {
-            let text = rest.get(at..)?;
-            let (inside, after) = text.split_at_checked(quoted(text))?;
-            if let Some(name) = self.in_text(inside) {
-                return Some(name);
+    fn in_settings(&self, line: &[u8]) -> Option<&'h [u8]> {
+        let opened = line.iter().position(|&byte| byte == b'<')?;
+        let mut list = line.get(opened + 1..)?;
+        while let Some((key, value, rest)) = setting(list) {
+            let name = if OWN_WORDS.contains(&key) { None } else { self.in_text(value) };
+            if name.is_some() {
+                return name;
             }
-            rest = after;
+            list = rest;
         }
-        None
+        self.in_text(list)
     }
 }

@@ -20,7 +20,7 @@ pub struct Settings<'a> {
 }
 
 /// The next setting of a line's list and what is left after it. Text in quotes may hold anything.
-fn setting(list: &[u8]) -> Option<(&[u8], &[u8], &[u8])> {
+pub fn setting(list: &[u8]) -> Option<(&[u8], &[u8], &[u8])> {
     let equals = list.iter().position(|&byte| byte == b'=')?;
     let (key, value) = (list.get(..equals)?, list.get(equals + 1..)?);
     let length = match value.first() {
@@ -33,7 +33,7 @@ fn setting(list: &[u8]) -> Option<(&[u8], &[u8], &[u8])> {
 }
 
 /// The length of the text in quotes that a value begins with, both quotes included.
-pub fn quoted(value: &[u8]) -> usize {
+fn quoted(value: &[u8]) -> usize {
     let mut escaped = false;
     let end = value.iter().skip(1).position(|&byte| {
         let ends = byte == b'"' && !escaped;

@@ -5,8 +5,8 @@ use std::ops::Range;
 use crate::source::Source;
 use crate::stop::{Outcome, Stop};
 
-/// The two lengths at a record's start.
-const LENGTHS: usize = 8;
+/// The bytes of the two lengths at a record's start.
+pub const LENGTHS: usize = 8;
 /// The bytes of a batch for each thread.
 const BATCH: usize = 1 << 20;
 /// How much of a record is held. The library refuses a longer one by its lengths alone, so the rest is passed over.

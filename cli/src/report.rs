@@ -12,9 +12,10 @@ const CLAIMED: [&str; 4] = [
     "each choice and each tally is the answer of the proved library, which is proved to equal its definition",
     "for every counter, over the records that have a tally, those who stay and those who left add up to the source's",
 ];
-const NOT_CLAIMED: [&str; 4] = [
+const NOT_CLAIMED: [&str; 5] = [
     "that INFO fields, which stay as they were, say nothing of those who left: AC, AN, AF, NS and their like still count them",
-    "that a name is not spelt otherwise in the header, or that IDs and INFO texts name nobody",
+    "that a name is not spelt otherwise in the header, or that IDs of records and fields and INFO texts name nobody",
+    "that the header's lines are as they were, but for the people and the offsets of names in the dictionaries",
     "that reading the files, their headers and the packed blocks, and printing this page, is proved: only the library is",
     "that the source itself is true, or that the list of names is the one that was meant",
 ];

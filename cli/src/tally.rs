@@ -2,14 +2,14 @@
 
 use std::io::Write;
 
-use sikalumdo::{Kind, Record, Refusal, Tally};
+use sikalumdo::{field_of, Kind, Refusal, Site, Tally};
 
 use crate::args::Asked;
 use crate::header::Header;
 use crate::output::{say, Output};
 use crate::place::{place, refusal_words};
 use crate::progress::Progress;
-use crate::records::{Entry, Records};
+use crate::records::{site_block, Entry, Records, LENGTHS};
 use crate::source::Source;
 use crate::stop::{Outcome, DIFFERS};
 use crate::totals::Totals;
@@ -56,23 +56,39 @@ fn put_number(rows: &mut Vec<u8>, before: u8, number: impl std::fmt::Display) {
     let _ = write!(rows, "{number}");
 }
 
-/// ID, REF and ALT of a record that was read.
-fn put_site(rows: &mut Vec<u8>, record: &Record) -> Result<(), Refusal> {
-    rows.push(b'\t');
-    put_text(rows, record.fetch(Kind::ID, 0)?.elements);
-    rows.push(b'\t');
-    put_text(rows, record.fetch(Kind::ALLELE, 0)?.elements);
-    rows.push(b'\t');
-    for number in 1..record.site().alleles {
-        if number > 1 {
-            rows.push(b',');
-        }
-        put_text(rows, record.fetch(Kind::ALLELE, number)?.elements);
-    }
-    if record.site().alleles < 2 {
-        rows.push(b'.');
-    }
-    Ok(())
+/// What fetching an ID or an allele needs of a record that was accepted, made of its lengths and its number of alleles, so
+/// that a record that was tallied is not read once more.
+fn told(bytes: &[u8], alleles: u32) -> Option<Site> {
+    let border = LENGTHS + site_block(bytes)?.len();
+    Some(Site {
+        length: bytes.len() as u32,
+        border: border as u32,
+        alleles,
+        chrom: 0,
+        pos: 0,
+        rlen: 0,
+        qual_bits: 0,
+        infos: 0,
+        formats: 0,
+        people: 0,
+        gt_type: 0,
+        gt_len: 0,
+        gt_place: 0,
+    })
+}
+
+/// ID, REF and ALT of a record that was accepted, or dots.
+fn put_site(rows: &mut Vec<u8>, bytes: &[u8], alleles: u32) {
+    let site = told(bytes, alleles);
+    let mut put = |before: u8, kind: Kind, number: u32| {
+        rows.push(before);
+        let field = site.and_then(|site| field_of(bytes, &site, kind, number).ok());
+        put_text(rows, field.map_or(&[], |field| field.elements));
+    };
+    put(b'\t', Kind::ID, 0);
+    put(b'\t', Kind::ALLELE, 0);
+    put(b'\t', Kind::ALLELE, 1);
+    (2..alleles).for_each(|number| put(b',', Kind::ALLELE, number));
 }
 
 fn put_counts(rows: &mut Vec<u8>, tally: &Tally) {
@@ -86,12 +102,11 @@ fn put_counts(rows: &mut Vec<u8>, tally: &Tally) {
     }
 }
 
-/// The row of a record that is refused has its refusal for the calls.
+/// The row of a record that is refused has its refusal for the calls. One with too many alleles can be read all the same.
 fn put_refused(rows: &mut Vec<u8>, entry: &Entry, header: &Header, refusal: &Refusal) {
-    let site = Record::read(entry.bytes, &header.facts).and_then(|record| put_site(rows, &record));
-    if site.is_err() {
-        rows.extend_from_slice(b"\t.\t.\t.");
-    }
+    let alleles = sikalumdo::read(entry.bytes, &header.facts).map_or(0, |site| site.alleles);
+    put_site(rows, entry.bytes, alleles);
+    // Writing to memory does not fail.
     let _ = write!(rows, "\t.\t.\t.\trefused {} at {}", refusal.number, refusal.place);
 }
 
@@ -114,13 +129,12 @@ fn tally_part(found: &mut Found, header: &Header, with_rows: bool, part: &[Entry
 
 fn put_row(rows: &mut Vec<u8>, header: &Header, entry: &Entry, tallied: &Result<Tally, Refusal>) {
     put_place(rows, header, entry.bytes);
-    let put = tallied.as_ref().map_err(|&refusal| refusal).and_then(|tally| {
-        put_site(rows, &Record::read(entry.bytes, &header.facts)?)?;
-        put_counts(rows, tally);
-        Ok(())
-    });
-    if let Err(refusal) = put {
-        put_refused(rows, entry, header, &refusal);
+    match tallied {
+        Ok(tally) => {
+            put_site(rows, entry.bytes, tally.alleles as u32);
+            put_counts(rows, tally);
+        }
+        Err(refusal) => put_refused(rows, entry, header, refusal),
     }
     rows.push(b'\n');
 }
