@@ -186,6 +186,19 @@ bad 's50 and q10\|q10 and s50' < <(sed 's/,IDX=2>/,IDX=1>/' "$three")
 bad "the sample name 'P1' is empty or stands twice" < <(sed 's/\tP0\t/\tP1\t/' "$three")
 bad 'expected the empty block that ends a BGZF file' < <(head -c -28 "$made/three.bcf")
 bad 'expected a whole BGZF file' < <(head -c -100 "$made/three.bcf")
+# Packed files without bgzip, and without any tool; a release behind a link replaces the file and not the link.
+mkdir "$made/tools"
+ln -s "$(command -v bcftools)" "$made/tools/bcftools"
+count=$((count + 2))
+(PATH=$made/tools; "$program" check "$made/three.bcf") >"$made/said" 2>&1 || fail 'bcftools does not unpack where bgzip is not there'
+rm "$made/tools/bcftools"
+status=0; (PATH=$made/tools; "$program" check "$made/three.bcf") >"$made/said" 2>&1 || status=$?
+{ [ $status -eq 2 ] && grep -q 'neither bgzip nor bcftools is here' "$made/said"; } || fail 'no word where nothing unpacks'
+touch "$made/behind"
+ln -s behind "$made/link"
+ends 0 '2 people stay, 1 left' cut "$three" --without "$made/names" -o "$made/link"
+{ [ -L "$made/link" ] && [ -s "$made/behind" ]; } || fail 'a link is replaced'
+
 count=$((count + 3))
 status=0; "$program" tally "$three" >/dev/full 2>"$made/said" || status=$?
 { [ $status -eq 2 ] && grep -q 'No space left' "$made/said"; } || fail 'a full disk is not heard of'

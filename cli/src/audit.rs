@@ -61,6 +61,8 @@ pub fn audit(asked: &Asked) -> Outcome<u8> {
         walk.go(&mut differences, &mut Progress::begin(asked.quiet))?;
         add_up(&walk.found, &mut differences);
         found = Some(walk.found);
+    } else {
+        differences.add(|| "the records cannot be compared".to_string());
     }
     let report = Report { files: sums.map(Checksum::finish), people, by_own_people, found, differences };
     let page = if asked.json { report.json() } else { report.page() };

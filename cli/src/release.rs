@@ -4,7 +4,7 @@ use std::fs::{self, File};
 use std::io::{self, Write};
 use std::os::fd::AsFd;
 use std::os::unix::fs::MetadataExt;
-use std::path::{Path, PathBuf};
+use std::path::PathBuf;
 use std::process::{Child, Command, Stdio};
 
 use crate::output::Output;
@@ -40,13 +40,14 @@ fn target(path: &str) -> io::Result<(File, Option<Beside>)> {
         // A device or a pipe is written to as it is; a rename would replace it.
         return Ok((File::options().write(true).open(path)?, None));
     }
-    let place = Path::new(path);
+    // Where the path is a link, the file that it leads to is replaced, not the link.
+    let place = fs::canonicalize(path).unwrap_or_else(|_| PathBuf::from(path));
     let mut name = place.file_name().ok_or_else(|| io::Error::other("it names no file"))?.to_os_string();
     name.push(format!(".part-{}", std::process::id()));
     let beside = place.with_file_name(name);
     let file = File::options().write(true).create_new(true).open(&beside)?;
     let kept = file.try_clone()?;
-    Ok((file, Some(Beside { path: beside, place: place.to_path_buf(), file: kept })))
+    Ok((file, Some(Beside { path: beside, place, file: kept })))
 }
 
 /// Starts bgzip before a file.

@@ -145,12 +145,13 @@ impl Report {
         let found = self.found.as_ref().map_or("\"records\":null".to_string(), Found::json);
         let Differences { told, count } = &self.differences;
         format!(
-            "{{\"version\":{},{},{},{},\"people\":{{\"source\":{all},\"release\":{there},\"stay\":{stay},\"left\":{left}}},{found},\
+            "{{\"version\":{},{},{},{},\"people\":{{\"source\":{all},\"release\":{there},\"stay\":{stay},\"left\":{left}}},\"by_own_people\":{},{found},\
              \"differences\":{count},\"first\":{},\"claimed\":{},\"not_claimed\":{}}}\n",
             quote(VERSION),
             source.json("source"),
             release.json("release"),
             names.json("names"),
+            self.by_own_people,
             list(told.iter().map(|words| quote(words))),
             list(CLAIMED.iter().filter(|_| *count == 0).map(|words| quote(words))),
             list(NOT_CLAIMED.iter().map(|words| quote(words))),
