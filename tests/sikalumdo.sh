@@ -146,6 +146,27 @@ ends 1 'refusal 5 at byte 16' cut "$made/refused.bcf" --without "$made/names" -o
 ends 0 'left out: record 2 (20:997)' cut "$made/refused.bcf" --without "$made/names" -o "$made/lacking" --leave-out-refused --quiet
 ends 1 'not in the release: the source.s record 2 (20:997)' audit "$made/refused.bcf" "$made/lacking" --without "$made/names"
 
+# A record that is longer than any may be is refused by its lengths and passed over; long ones that may be go through.
+python3 - "$made/three.plain" "$made/long.bcf" <<'PY'
+import struct, sys
+data = open(sys.argv[1], "rb").read()
+start = 9 + struct.unpack_from("<I", data, 5)[0]
+first = data[start:start + 8 + sum(struct.unpack_from("<II", data, start))]
+tall = struct.pack("<II", len(first), 40_000_000) + bytes(len(first) + 40_000_000)
+wide = struct.pack("<II", 5_000_000, 0) + bytes(5_000_000)
+open(sys.argv[2], "wb").write(data + tall + first + wide + tall + first)
+PY
+ends 1 '^705 records, 702 accepted, 3 refused: 2 by refusal 2, 1 by refusal [0-9]*$' check "$made/long.bcf"
+ends 1 '^705 records, 702 accepted' check "$made/long.bcf" --threads 20
+ends 0 '702 records, 3 left out' cut "$made/long.bcf" --without "$made/names" -o "$made/lacking" --leave-out-refused
+ends 1 '^records: 705 in the source, 702 in the release, 702 the same$' audit "$made/long.bcf" "$made/lacking" --without "$made/names"
+
+# A dictionary with gaps, as bcftools leaves them.
+bcftools annotate --no-version -x INFO/DP,FORMAT/AD -Ou "$made/three.bcf" >"$made/gaps.bcf"
+"$program" cut "$made/gaps.bcf" --without "$made/names" -o "$made/ours" --quiet
+expect "the bytes of bcftools with gaps" <(bcftools view --no-version -I -S "^$made/names" -Ou "$made/gaps.bcf") <"$made/ours"
+ends 0 'is what it should be' audit "$made/gaps.bcf" "$made/ours" --without "$made/names"
+
 # Names
 : >"$made/empty"
 printf 'P1\nP1\n' >"$made/twice"

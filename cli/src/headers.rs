@@ -8,28 +8,37 @@ use crate::leavers::Leavers;
 use crate::names::Dictionary;
 use crate::people::Choice;
 
-/// Finds what differs in the people. Whoever should have gone and did not comes first.
+/// Numbers from 1 by name.
+fn numbered(header: &Header) -> HashMap<&[u8], usize> {
+    header.people.iter().map(Vec::as_slice).zip(1..).collect()
+}
+
+/// Finds whoever should have gone and did not, and then whoever else is in the release or is not.
 fn people(source: &Header, release: &Header, choice: &Choice, found: &mut Differences) {
-    let (staying, leaving) = (choice.staying(source), choice.leaving(source));
-    let there: HashMap<&[u8], usize> = release.people.iter().map(Vec::as_slice).zip(1..).collect();
-    let known: HashMap<&[u8], usize> = source.people.iter().map(Vec::as_slice).zip(1..).collect();
-    for (name, number) in leaving.iter().filter_map(|&name| Some((name, there.get(name)?))) {
+    let (known, there) = (numbered(source), numbered(release));
+    let remained = choice.leaving(source).into_iter().filter_map(|name| Some((name, there.get(name)?)));
+    remained.for_each(|(name, number)| {
         found.add(|| format!("{} left and is in the release, as its person {number}", shown(name)));
+    });
+    let strangers = release.people.iter().filter(|name| !known.contains_key(name.as_slice()));
+    strangers.for_each(|name| found.add(|| format!("{} is in the release and not in the source", shown(name))));
+    let lost = choice.staying(source).into_iter().filter(|name| !there.contains_key(name));
+    lost.for_each(|name| found.add(|| format!("{} stays and is not in the release", shown(name))));
+    order(&choice.staying(source), release, found);
+}
+
+/// Finds the first person who stands in another place, where the people are those who stay.
+fn order(staying: &[&[u8]], release: &Header, found: &mut Differences) {
+    let there = numbered(release);
+    if there.len() != staying.len() || !staying.iter().all(|name| there.contains_key(name)) {
+        return;
     }
-    for name in release.people.iter().filter(|name| !known.contains_key(name.as_slice())) {
-        found.add(|| format!("{} is in the release and not in the source", shown(name)));
-    }
-    for name in staying.iter().filter(|&&name| !there.contains_key(name)) {
-        found.add(|| format!("{} stays and is not in the release", shown(name)));
-    }
-    if release.people.len() == staying.len() && staying.iter().all(|&name| there.contains_key(name)) {
-        let other = staying.iter().zip(&release.people).zip(1..).find(|((due, there), _)| **due != there.as_slice());
-        if let Some(((due, there), number)) = other {
-            let (due, there) = (shown(due), shown(there));
-            found.add(|| {
-                format!("the people stand in another order: person {number} of the release is {there}, expected {due}")
-            });
-        }
+    let other = staying.iter().zip(&release.people).zip(1..).find(|((due, there), _)| **due != there.as_slice());
+    if let Some(((due, there), number)) = other {
+        let (due, there) = (shown(due), shown(there));
+        found.add(|| {
+            format!("the people stand in another order: person {number} of the release is {there}, expected {due}")
+        });
     }
 }
 

@@ -22,6 +22,7 @@ mod records;
 mod recount;
 mod release;
 mod report;
+mod shifts;
 mod source;
 mod stop;
 mod tally;

@@ -20,6 +20,11 @@ pub fn place<'h>(header: &'h Header, bytes: &[u8]) -> Option<(&'h [u8], i64)> {
     Some((header.contigs.name(offset)?, position))
 }
 
+/// Whether two records say the same contig and position.
+pub fn is_same_place(one: &[u8], other: &[u8]) -> bool {
+    word(one, CHROM) == word(other, CHROM) && word(one, POS) == word(other, POS)
+}
+
 /// A record in words, as `record 17 (20:14370)`.
 pub fn record_words(header: &Header, entry: &Entry) -> String {
     match place(header, entry.bytes) {

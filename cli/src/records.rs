@@ -65,26 +65,22 @@ impl Records {
 
     /// The records at hand; at least one, unless the file has no more.
     pub fn batch(&mut self) -> Outcome<Vec<Entry<'_>>> {
-        if self.passed >= self.spans.len() {
+        self.first(usize::MAX, 1)
+    }
+
+    /// The first of the records at hand, so many at most; the file gives more where there are fewer than wanted, as far as
+    /// there is room for them.
+    pub fn first(&mut self, most: usize, wanted: usize) -> Outcome<Vec<Entry<'_>>> {
+        if self.spans.len() < self.passed + wanted {
             self.more()?;
         }
-        Ok(self.at_hand())
-    }
-
-    /// The records at hand, as many as there is room for.
-    pub fn full_batch(&mut self) -> Outcome<Vec<Entry<'_>>> {
-        self.more()?;
-        Ok(self.at_hand())
-    }
-
-    fn at_hand(&self) -> Vec<Entry<'_>> {
         let left = self.spans.iter().skip(self.passed).zip(self.number..);
         let entry = |(span, number): (&Range<usize>, u64)| Entry {
             number,
             at: self.start + span.start as u64,
             bytes: self.buffer.get(span.clone()).unwrap_or_default(),
         };
-        left.map(entry).collect()
+        Ok(left.take(most).map(entry).collect())
     }
 
     /// Passes so many of the records at hand.

@@ -1,23 +1,19 @@
 //! The walk over a source and its release, record beside record. Where one is dropped, doubled or moved, the walk finds
 //! its step again.
 
-use std::collections::HashMap;
-use std::hash::{DefaultHasher, Hash, Hasher};
-
 use crate::compare::{chosen, Compared, Sums, Terms};
 use crate::differences::Differences;
 use crate::explain::explain;
 use crate::header::Header;
-use crate::place::{record_words, refusal_words};
+use crate::place::{is_same_place, record_words, refusal_words};
 use crate::progress::Progress;
 use crate::records::{site_block, Entry, Records};
+use crate::shifts::Shifts;
 use crate::stop::Outcome;
 use crate::work::share;
 
 /// How many records ahead the step is looked for.
 const AHEAD: usize = 64;
-/// How many records out of their place are remembered, to be known again.
-const REMEMBERED: usize = 4096;
 
 /// A source and its release on the way.
 pub struct Walk<'a> {
@@ -26,11 +22,7 @@ pub struct Walk<'a> {
     source: Records,
     release: Records,
     workers: Vec<Compared>,
-    /// Records of the source that were not at their place, by what they should be in the release.
-    missing: HashMap<u64, u64>,
-    /// Records of the release that were one too many, by their bytes.
-    extra: HashMap<u64, u64>,
-    last: Option<u64>,
+    shifts: Shifts,
     /// What was found.
     pub found: Found,
 }
@@ -58,15 +50,9 @@ enum Step {
     Extra(usize),
 }
 
-fn digest(bytes: &[u8]) -> u64 {
-    let mut hasher = DefaultHasher::new();
-    bytes.hash(&mut hasher);
-    hasher.finish()
-}
-
 /// Whether a record of the release is the choice from one of the source. Most are known not to be by their places.
 fn is_choice(terms: &Terms, source: &Entry, release: &Entry, buffer: &mut Vec<u8>) -> bool {
-    source.bytes.get(8..16) == release.bytes.get(8..16)
+    is_same_place(source.bytes, release.bytes)
         && chosen(source.bytes, &terms.source, &terms.choice.stay, buffer) == Some(release.bytes)
 }
 
@@ -75,6 +61,7 @@ fn step(terms: &Terms, source: &[Entry], release: &[Entry]) -> Step {
     let (Some(first), Some(found)) = (source.first(), release.first()) else { return Step::Beside };
     let mut buffer = Vec::new();
     let due = chosen(first.bytes, &terms.source, &terms.choice.stay, &mut buffer);
+    let is_refused = due.is_none();
     if due.is_some_and(|due| site_block(due) == site_block(found.bytes)) {
         return Step::Beside;
     }
@@ -85,6 +72,10 @@ fn step(terms: &Terms, source: &[Entry], release: &[Entry]) -> Step {
         if source.get(ahead).is_some_and(|later| is_choice(terms, later, found, &mut buffer)) {
             return Step::Missing(ahead);
         }
+    }
+    // A record that is refused has no choice, so one at another place was not made of it.
+    if is_refused && !is_same_place(first.bytes, found.bytes) {
+        return Step::Missing(1);
     }
     Step::Beside
 }
@@ -98,24 +89,25 @@ impl<'a> Walk<'a> {
         threads: usize,
     ) -> Walk<'a> {
         let workers = (0..threads).map(|_| Compared::default()).collect();
-        let (missing, extra) = (HashMap::new(), HashMap::new());
         let (source, release) = files;
-        Walk { terms, headers, source, release, workers, missing, extra, last: None, found: Found::default() }
+        Walk { terms, headers, source, release, workers, shifts: Shifts::default(), found: Found::default() }
     }
 
     /// Goes to the end of both files.
     pub fn go(&mut self, differences: &mut Differences, progress: &mut Progress) -> Outcome<()> {
         let mut most = usize::MAX;
         loop {
-            let (source, release) = (self.source.batch()?, self.release.batch()?);
-            let pairs: Vec<(Entry, Entry)> = source.into_iter().zip(release).take(most).collect();
+            let (source, release) = (self.source.first(most, 1)?, self.release.first(most, 1)?);
+            let pairs: Vec<(Entry, Entry)> = source.into_iter().zip(release).collect();
             if pairs.is_empty() {
                 return self.rest(differences);
             }
             share(&mut self.workers, &pairs, |worker, part| worker.compare(self.terms, part))?;
             let (same, sums) = collected(&mut self.workers, pairs.len());
             let (is_whole, last) = (same == pairs.len(), same.checked_sub(1).and_then(|last| pairs.get(last)));
-            self.last = last.map(|(_, release)| digest(release.bytes)).or(self.last);
+            if let Some((_, release)) = last {
+                self.shifts.note_last(release);
+            }
             self.found.sums.join(&sums);
             self.found.same += same as u64;
             self.pass(same, same);
@@ -137,7 +129,7 @@ impl<'a> Walk<'a> {
 
     /// Tells what differs at the pair at hand, and goes past it.
     fn differ(&mut self, differences: &mut Differences) -> Outcome<()> {
-        let (source, release) = (self.source.full_batch()?, self.release.full_batch()?);
+        let (source, release) = (self.source.first(AHEAD, AHEAD)?, self.release.first(AHEAD, AHEAD)?);
         let (mut passed_source, mut passed_release) = (0, 0);
         match step(self.terms, &source, &release) {
             Step::Missing(count) => passed_source = count,
@@ -150,18 +142,13 @@ impl<'a> Walk<'a> {
                 }
             }
         }
-        if passed_release == 0 {
-            let missing = source.iter().take(passed_source);
-            missing.for_each(|entry| {
-                tell_missing(self.terms, self.headers.0, entry, &mut self.missing, &self.extra, differences)
-            });
-        }
-        if passed_source == 0 {
-            let extra = release.iter().take(passed_release);
-            extra.for_each(|entry| {
-                tell_extra(self.headers.1, entry, self.last, &self.missing, &mut self.extra, differences)
-            });
-        }
+        let (missing, extra) = match (passed_source, passed_release) {
+            (missing, 0) => (source.get(..missing), None),
+            (0, extra) => (None, release.get(..extra)),
+            _ => (None, None),
+        };
+        self.shifts.tell_missing(self.terms, self.headers.0, missing.unwrap_or_default(), differences);
+        self.shifts.tell_extra(self.headers.1, extra.unwrap_or_default(), differences);
         self.pass(passed_source, passed_release);
         Ok(())
     }
@@ -174,12 +161,8 @@ impl<'a> Walk<'a> {
             if sources + releases == 0 {
                 return Ok(());
             }
-            for entry in &source {
-                tell_missing(self.terms, self.headers.0, entry, &mut self.missing, &self.extra, differences);
-            }
-            for entry in &release {
-                tell_extra(self.headers.1, entry, self.last, &self.missing, &mut self.extra, differences);
-            }
+            self.shifts.tell_missing(self.terms, self.headers.0, &source, differences);
+            self.shifts.tell_extra(self.headers.1, &release, differences);
             self.pass(sources, releases);
         }
     }
@@ -215,50 +198,4 @@ fn beside(terms: &Terms, headers: (&Header, &Header), pair: (&Entry, &Entry), di
             differences.add(|| format!("{record}: {}", words.join("; ")));
         }
     }
-}
-
-/// Tells that a record of the source is not in the release at its place.
-fn tell_missing(
-    terms: &Terms,
-    header: &Header,
-    entry: &Entry,
-    missing: &mut HashMap<u64, u64>,
-    extra: &HashMap<u64, u64>,
-    differences: &mut Differences,
-) {
-    let mut buffer = Vec::new();
-    let due = chosen(entry.bytes, &terms.source, &terms.choice.stay, &mut buffer).map(digest);
-    if let Some(due) = due.filter(|_| missing.len() < REMEMBERED) {
-        missing.insert(due, entry.number);
-    }
-    let moved = due.and_then(|due| extra.get(&due));
-    let refused = sikalumdo::read(entry.bytes, &terms.source).err();
-    differences.add(|| match (moved, refused) {
-        (Some(there), _) => {
-            format!("{} of the source is moved: it is record {there} of the release", record_words(header, entry))
-        }
-        (None, Some(refusal)) => format!("not in the release: the source's {}", refusal_words(header, entry, &refusal)),
-        (None, None) => format!("{} of the source is not at its place in the release", record_words(header, entry)),
-    });
-}
-
-/// Tells that a record of the release is one too many.
-fn tell_extra(
-    header: &Header,
-    entry: &Entry,
-    last: Option<u64>,
-    missing: &HashMap<u64, u64>,
-    extra: &mut HashMap<u64, u64>,
-    differences: &mut Differences,
-) {
-    let own = digest(entry.bytes);
-    if extra.len() < REMEMBERED {
-        extra.insert(own, entry.number);
-    }
-    let how = match missing.get(&own) {
-        Some(number) => format!("it is record {number} of the source, moved"),
-        None if last == Some(own) => "it stands twice".to_string(),
-        None => "it is not what the source has there".to_string(),
-    };
-    differences.add(|| format!("{} of the release is one too many there: {how}", record_words(header, entry)));
 }
