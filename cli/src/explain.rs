@@ -117,7 +117,7 @@ fn fixed_words(header: &Header, due: &Record, found: &Record) -> Vec<String> {
     let contig = |chrom: i32| header.contigs.name(chrom as u32).map_or(chrom.to_string(), shown);
     let numbers = [
         ("CHROM", contig(due.chrom), contig(found.chrom)),
-        ("POS", (i64::from(due.pos) + 1).to_string(), (i64::from(found.pos) + 1).to_string()),
+        ("POS", due.vcf_pos().to_string(), found.vcf_pos().to_string()),
         ("rlen", due.rlen.to_string(), found.rlen.to_string()),
         ("QUAL's bits", format!("{:08X}", due.qual_bits), format!("{:08X}", found.qual_bits)),
         ("the number of alleles", due.alleles.to_string(), found.alleles.to_string()),

@@ -13,11 +13,11 @@ fn word(bytes: &[u8], at: usize) -> Option<i32> {
     bytes.get(at..)?.first_chunk().map(|four| i32::from_le_bytes(*four))
 }
 
-/// The contig's name and the one-based position that a record says, accepted or not.
-pub fn place<'h>(header: &'h Header, bytes: &[u8]) -> Option<(&'h [u8], i64)> {
+/// The contig's name and the VCF position that a record says, accepted or not. The largest number is no position.
+pub fn place<'h>(header: &'h Header, bytes: &[u8]) -> Option<(&'h [u8], i32)> {
     let offset = u32::try_from(word(bytes, CHROM)?).ok()?;
-    let position = i64::from(word(bytes, POS)?) + 1;
-    Some((header.contigs.name(offset)?, position))
+    let pos = word(bytes, POS).filter(|&pos| pos < i32::MAX)?;
+    Some((header.contigs.name(offset)?, sikalumdo::vcf_pos(pos)))
 }
 
 /// Whether two records say the same contig and position.

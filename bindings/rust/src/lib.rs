@@ -31,7 +31,7 @@ pub use build::Builder;
 pub use choose::choose;
 pub use facts::Facts;
 pub use fetch::{fetch, field_of, shown, Field, Kind};
-pub use read::{read, Site};
+pub use read::{read, vcf_pos, Site};
 pub use record::Record;
 pub use refusal::Refusal;
 pub use tally::{tally, Tally};

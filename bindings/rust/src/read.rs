@@ -36,7 +36,7 @@ pub struct Site {
 impl Site {
     /// The VCF position, where the first base is 1: one more than POS, and 0 for −1.
     pub fn vcf_pos(&self) -> i32 {
-        ffi::vcf_pos(self.pos as u32)
+        vcf_pos(self.pos)
     }
 
     /// The numbers as reading told them.
@@ -48,6 +48,11 @@ impl Site {
             self.formats.into(), self.people.into(), self.gt_type.into(), self.gt_len.into(), self.gt_place.into(),
         ]
     }
+}
+
+/// The VCF position of a POS, zero-based as it stands in a record; of the largest number, which is no POS, the smallest.
+pub fn vcf_pos(pos: i32) -> i32 {
+    ffi::vcf_pos(pos as u32)
 }
 
 /// Reads the record at the start of `s`; bytes after it belong to the next one. [`Record::read`](crate::Record::read)
