@@ -16,7 +16,7 @@ use Rattle.words.proofs.Words.{length-bytes}
 use Rattle.words.proofs.Places.{drop-on}
 use Rattle.types.specs.Rows.{widthOf}
 use Rattle.facts.specs.declared.Facts.{Facts}
-use Rattle.fixed.specs.Layout.{indivAt, peopleAt, idAt, membersOf}
+use Rattle.fixed.specs.Layout.{indivAt, peopleAt, membersOf}
 use Rattle.fixed.specs.declared.Site.{Site}
 use Rattle.genotypes.specs.declared.Gt.{Gt}
 use Rattle.record.specs.Reading.{reading}
@@ -26,7 +26,7 @@ use Rattle.fetch.specs.declared.Kind.the-variants.{Format}
 use Rattle.fetch.proofs.Account.{of-kind}
 use Rattle.choice.specs.Choice.{ascending, chosenParts}
 use Rattle.choose.specs.Chosen.{chosenFields, keptFormats, chosenBlock, chosenSite, chosenRecord}
-use Rattle.choose.proofs.Written.{length-chosenSite, length-chosenRecord}
+use Rattle.choose.proofs.Written.{length-chosenSite}
 use Rattle.choose_laws.specs.Bytes.{stretch, chosenStretches, keptFields, Apart, ChosenBytes}
 use Rattle.choose_laws.proofs.Filled.{Filled, opened, filled}
 use Rattle.choose_laws.proofs.Judging.{chosenParts-take}

@@ -4,16 +4,16 @@ use mathlib.Core.Path.{_≡_, refl, sym, _∙_, ap}
 use mathlib.Core.Logic.{_⊎_, inl, inr}
 use mathlib.Core.List.{List, [], _∷_, _++_, map}
 use mathlib.Core.Bool.{Bool, true, false}
-use Prim.Native.Nat.{ℕ, zero, suc, _+_, _-_, _*_, _/_, _%_, _^_, _<_, _≤_}
+use Prim.Native.Nat.{ℕ, zero, suc, _+_, _-_, _*_, _/_, _%_, _<_, _≤_}
 use native.Mathlib.Omega.{arith}
 use native.Mathlib.Nat.{zero-add, mul-div-cancel}
 use lib.Dec.{eqb, ltb}
-use lib.IntN.{ℤ, pos}
+use lib.IntN.{pos}
 use lib.ListN.{drop, getD, replicate}
 use mir.Syntax.{w32}
 use mir.Val.{toZ, ofZ}
 use mir.Facts.{toZ-pos, ofZ-toZ}
-use borrow.Author.Tests.{eqb-true, eqb-false, eq-eqb, ne-eqb, lt-ltb, ltb-true, ltb-false}
+use borrow.Author.Tests.{eqb-true, eqb-false, eq-eqb, ne-eqb, lt-ltb, ltb-false}
 use Rattle.words.specs.Pick.{pick}
 use Rattle.types.specs.Rows.{widthOf}
 use Rattle.types.specs.Elements.{kind, marked, shown, widened}
@@ -25,7 +25,7 @@ use Rattle.vectors.specs.declared.Judged.the-variants.{Sound}
 use Rattle.vectors.specs.declared.Turn.the-variants.{Bad, On}
 use Rattle.vectors.proofs.Codes.{code-sound}
 use Rattle.genotypes.specs.declared.Gt.{Gt}
-use Rattle.elements.specs.Elements.{shownBy, codeCall, callOf, callShown}
+use Rattle.elements.specs.Elements.{shownBy, codeCall}
 use Rattle.elements.specs.declared.Call.{Call}
 use Rattle.elements.specs.declared.Call.the-variants.{Allele, Missing}
 use Rattle.calls.specs.Calls.{slots, alleleOf, alleles, people, called, howMany, counters, peopleTally}

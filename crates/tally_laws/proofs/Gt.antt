@@ -1,7 +1,7 @@
 -- GT of an accepted record: all its elements are there, they were judged as GT's codes, and where it has a length its type has a width. Rests on what
 -- reading judged of a FORMAT field.
-use mathlib.Core.Path.{_≡_, refl, sym, _∙_, ap}
-use mathlib.Core.List.{List, [], _∷_, _++_}
+use mathlib.Core.Path.{_≡_, refl, _∙_}
+use mathlib.Core.List.{List, []}
 use mathlib.Core.Bool.{Bool, true, false}
 use Prim.Native.Nat.{ℕ, zero, suc, _+_, _-_, _*_, _/_, _<_, _≤_}
 use native.Mathlib.Omega.{arith}
@@ -15,7 +15,7 @@ use Rattle.words.proofs.Places.{drop-on}
 use Rattle.types.specs.Rows.{rowOf, widthOf, allowed}
 use Rattle.types.specs.declared.Use.the-variants.{Gt as GtUse}
 use Rattle.values.specs.declared.Value.the-variants.{Present}
-use Rattle.vectors.specs.Sound.{codeMost, mostOf, sound}
+use Rattle.vectors.specs.Sound.{codeMost, sound}
 use Rattle.vectors.specs.Vectors.{judged, vectors}
 use Rattle.vectors.specs.declared.Judged.the-variants.{Sound}
 use Rattle.facts.specs.declared.Facts.{Facts}
@@ -25,7 +25,7 @@ use Rattle.genotypes.specs.declared.Gt.{Gt}
 use Rattle.genotypes.specs.declared.Genotypes.the-variants.{Sound as Blocked}
 use Rattle.record.specs.Reading.{reading, genotypesOf}
 use Rattle.record.specs.declared.Reading.the-variants.{Accepted}
-use Rattle.record.proofs.Accepted.{accepted, accepted-fits}
+use Rattle.record.proofs.Accepted.{accepted}
 use Rattle.fetch.proofs.Inside.{drop-past}
 use Rattle.fetch_laws.proofs.Agree.{sound-there, sound-judged}
 use Rattle.fetch_laws.proofs.Bytes.{part-of}

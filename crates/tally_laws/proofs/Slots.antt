@@ -1,16 +1,14 @@
 -- The slots of an accepted record's GT, and its tally by them. Before the first end of vector and no end of vector are the same there, since after an
 -- end only ends follow. Rests on proofs/Gt and on the laws of calls.
 use mathlib.Core.Path.{_≡_, refl, sym, _∙_, ap}
-use mathlib.Core.List.{List, [], _∷_, _++_, map}
+use mathlib.Core.List.{List, [], _∷_, map}
 use mathlib.Core.Bool.{Bool, true, false}
-use Prim.Native.Nat.{ℕ, zero, suc, _+_, _*_, _/_, _<_, _≤_}
+use Prim.Native.Nat.{ℕ, zero, suc, _+_, _*_, _<_, _≤_}
 use native.Mathlib.Omega.{arith}
-use native.Mathlib.Nat.{mul-zero, zero-mul, mul-div-cancel}
+use native.Mathlib.Nat.{mul-div-cancel}
 use lib.Dec.{ltb}
-use lib.ListN.{length, take, drop, replicate, length-drop, length-append}
-use lib.Seq.{length-take-le}
+use lib.ListN.{length, drop, replicate, length-append}
 use Rattle.words.specs.Pick.{pick}
-use Rattle.words.specs.Words.{Bytes}
 use Rattle.types.specs.Rows.{widthOf}
 use Rattle.types.specs.Elements.{kind}
 use Rattle.types.specs.declared.Element.{Element}
@@ -19,19 +17,15 @@ use Rattle.vectors.specs.Sound.{codeMost}
 use Rattle.vectors.specs.Vectors.{numbers, elementTurn, follow, vector, vectors, judged}
 use Rattle.vectors.specs.declared.Judged.the-variants.{Sound}
 use Rattle.vectors.specs.declared.Turn.the-variants.{Bad, On}
-use Rattle.facts.specs.declared.Facts.{Facts}
-use Rattle.fixed.specs.declared.Site.{Site}
 use Rattle.genotypes.specs.declared.Gt.{Gt}
-use Rattle.record.specs.Reading.{reading}
-use Rattle.record.specs.declared.Reading.the-variants.{Accepted}
-use Rattle.calls.specs.Calls.{before, slots, alleles, people, called, noSlot, without, counters, peopleTally, peopleOf, counted}
+use Rattle.calls.specs.Calls.{before, slots, alleles, people, called, noSlot, without, peopleTally, peopleOf}
 use Rattle.calls.specs.Totals.{total, slotCount}
 use Rattle.calls.proofs.Sound.{refused, both-sound, sound-slots}
 use Rattle.calls.proofs.Laws.{length-people}
 use Rattle.calls.proofs.Counters.{raised-none, raised-zeros}
-use Rattle.tally.specs.Tally.{callsOf, nobody, tallied}
+use Rattle.tally.specs.Tally.{callsOf, nobody}
 use Rattle.tally.proofs.Parts.{callsOf-none, callsOf-part}
-use Rattle.choose_laws.proofs.Divided.{counted-people, tallied-accepted}
+use Rattle.choose_laws.proofs.Divided.{counted-people}
 use Rattle.tally_laws.specs.Slots.{gtPeople, isSlot, slotsOf, allSlots, isSome, count}
 use Rattle.tally_laws.proofs.Gt.{gtPart, GtSound, length-gtPart}
 
