@@ -2,7 +2,7 @@
 -- it writes, and the state after it. Rests on the order of turns and on values as they are given.
 use Prim.Native.Nat.{ℕ, _+_}
 use mathlib.Core.List.{List}
-use mathlib.Core.Bool.{Bool, true, false}
+use mathlib.Core.Bool.{Bool}
 use lib.Dec.{eqb}
 use lib.ListN.{length, take, set, replicate}
 use lib.Seq.{sets}
@@ -11,7 +11,7 @@ use Rattle.vectors.specs.Sound.{mostOf}
 use Rattle.fixed.specs.Layout.{idAt}
 use Rattle.facts.specs.declared.Facts.{Facts}
 use Rattle.genotypes.specs.Formats.{roleOf}
-use Rattle.shown.specs.Shown.{Kind, integers, floats, text, isIntegers}
+use Rattle.shown.specs.Shown.{Kind, integers, text, isIntegers}
 use Rattle.shown.specs.Front.{fieldsFilled}
 unfoldable pub use Rattle.build_front.specs.Front.{fieldsNumber}
 unfoldable pub use Rattle.shown.specs.Front.{frontBytes}
