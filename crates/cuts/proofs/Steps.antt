@@ -19,11 +19,12 @@ use Rattle.hexadecimal.specs.declared.FactsLine.{FactsLine}
 use Rattle.hexadecimal.specs.declared.FactsLine.the-variants.{Facts as AreFacts, NoFacts}
 use Rattle.hexadecimal.proofs.Cut.{facts-cut, frame-cut, choice-cut}
 use Rattle.facts.specs.declared.Facts.{Facts}
+use Rattle.frames.specs.Printed.{afterFirst, printedLines}
 use Rattle.frames.specs.declared.Answer.the-variants.{Text}
 use Rattle.cuts.specs.Cuts.{recordRoom, lineRoom, roomy, cutLine, cut, cutOut, cutFrom, cutKept, keptFrame}
 use Rattle.cuts.specs.Release.{releaseLine, releaseSaid, releaseSaidIn}
 use Rattle.cuts.specs.Steps.{stageAfter, lineText, choiceAfter, endText, textFrom, peopleOf, stepRoom}
-use Rattle.cuts.specs.Printed.{answers, afterChoice, withFacts, afterFirst, printedLines, printed, StepsPrinted}
+use Rattle.cuts.specs.Printed.{answers, afterChoice, withFacts, printed, StepsPrinted}
 use Rattle.cuts.specs.declared.Stage.{Stage}
 use Rattle.cuts.specs.declared.Stage.the-variants.{First, Choice, Records, BadFirst, BadChoice}
 use Rattle.cuts.proofs.Cuts.{stored-front}
@@ -113,12 +114,12 @@ text-choice choice f (l ∷ ls) h = by-choice (choiceOf l) refl
     by-choice (some cs) e =
         rw (e, text-records (stored choice (some cs)) f (length cs) ls, choice-front choice cs (choice-most l cs e) h)
 
-text-first : (choice : List ℕ) (ls : List (List ℕ)) → 30000 ≤ length choice → textFrom choice First ls ≡ printedLines ls
+text-first : (choice : List ℕ) (ls : List (List ℕ)) → 30000 ≤ length choice → textFrom choice First ls ≡ printedLines withFacts ls
 unfolding textFrom endText lineText stageAfter choiceAfter
 text-first choice [] h = refl
 text-first choice (l ∷ ls) h = by-facts (factsOf l) refl
   where
-    by-facts : (o : FactsLine) → factsOf l ≡ o → textFrom choice First (l ∷ ls) ≡ afterFirst o ls
+    by-facts : (o : FactsLine) → factsOf l ≡ o → textFrom choice First (l ∷ ls) ≡ afterFirst withFacts o ls
     by-facts (AreFacts f) e = rw e (text-choice choice f ls h)
     by-facts NoFacts e = rw (e, text-first-bad choice ls)
 

@@ -1,4 +1,5 @@
--- What the cutting program prints for a whole input. Rests on lines for the input's lines, and on specs/Cuts and Release for what is said of each.
+-- What the cutting program prints for a whole input. Rests on lines for the input's lines, on frames for the first of them, and on specs/Cuts and
+-- Release for what is said of the others.
 use mathlib.Core.Path.{_≡_}
 use Prim.Native.Nat.{ℕ, _+_, _<_, _≤_}
 use mathlib.Core.List.{List, [], _∷_, _++_}
@@ -6,11 +7,10 @@ use mathlib.Core.Option.{Option, none, some}
 use lib.ListN.{length}
 use Rattle.lines.specs.Lines.{linesOf}
 use Rattle.lines.specs.Pieces.{joined, linesTaken}
-use Rattle.hexadecimal.specs.Hexadecimal.{factsOf, choiceOf}
-use Rattle.hexadecimal.specs.declared.FactsLine.{FactsLine}
-use Rattle.hexadecimal.specs.declared.FactsLine.the-variants.{Facts as AreFacts, NoFacts}
+use Rattle.hexadecimal.specs.Hexadecimal.{choiceOf}
 use Rattle.facts.specs.declared.Facts.{Facts}
 use Rattle.frames.specs.Text.{badLine}
+use Rattle.frames.specs.Printed.{printedLines}
 use Rattle.cuts.specs.Cuts.{cutLine}
 use Rattle.cuts.specs.Release.{releaseLine}
 use Rattle.cuts.specs.Steps.{textFrom}
@@ -30,17 +30,8 @@ abbrev pub withFacts : Facts → List (List ℕ) → List ℕ
 withFacts f [] = badLine
 withFacts f (l ∷ ls) = afterChoice f (choiceOf l) ls
 
--- a first line that is absent or isn't 32 digits prints `bad` and ends it
-abbrev pub afterFirst : FactsLine → List (List ℕ) → List ℕ
-afterFirst NoFacts ls = badLine
-afterFirst (AreFacts f) ls = withFacts f ls
-
-abbrev pub printedLines : List (List ℕ) → List ℕ
-printedLines [] = badLine
-printedLines (l ∷ ls) = afterFirst (factsOf l) ls
-
 unfoldable pub printed : List ℕ → List ℕ
-printed input = printedLines (linesOf input)
+printed input = printedLines withFacts (linesOf input)
 
 -- the law of the cutting program: the texts of its steps over the lines of any division of an input, taken into a buffer that is longer than any good
 -- line, with room for any choice, are what is printed for the input

@@ -86,12 +86,12 @@ unfolding textFrom endText lineText stageAfter
 text-ended [] = refl
 text-ended (l ∷ ls) = text-ended ls
 
-text-first : (ls : List (List ℕ)) → textFrom First ls ≡ printedLines ls
+text-first : (ls : List (List ℕ)) → textFrom First ls ≡ printedLines answers ls
 unfolding textFrom endText lineText stageAfter
 text-first [] = refl
 text-first (l ∷ ls) = by-facts (factsOf l) refl
   where
-    by-facts : (o : FactsLine) → factsOf l ≡ o → textFrom First (l ∷ ls) ≡ afterFirst o ls
+    by-facts : (o : FactsLine) → factsOf l ≡ o → textFrom First (l ∷ ls) ≡ afterFirst answers o ls
     by-facts (AreFacts f) e = rw e (text-records f ls)
     by-facts NoFacts e = rw (e, text-ended ls)
 

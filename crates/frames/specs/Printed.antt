@@ -19,17 +19,18 @@ unfoldable pub answers : Facts → List (List ℕ) → List ℕ
 answers f [] = []
 answers f (l ∷ ls) = answerLine f l ++ answers f ls
 
--- a first line that is absent or isn't 32 digits prints `bad` and ends it; then an answer for each line
-abbrev pub afterFirst : FactsLine → List (List ℕ) → List ℕ
-afterFirst NoFacts ls = badLine
-afterFirst (AreFacts f) ls = answers f ls
+-- of any line program, by what it prints for the lines after the facts: a first line that is absent or isn't 32 digits prints `bad` and ends it
+abbrev pub afterFirst : (Facts → List (List ℕ) → List ℕ) → FactsLine → List (List ℕ) → List ℕ
+afterFirst rest NoFacts ls = badLine
+afterFirst rest (AreFacts f) ls = rest f ls
 
-abbrev pub printedLines : List (List ℕ) → List ℕ
-printedLines [] = badLine
-printedLines (l ∷ ls) = afterFirst (factsOf l) ls
+abbrev pub printedLines : (Facts → List (List ℕ) → List ℕ) → List (List ℕ) → List ℕ
+printedLines rest [] = badLine
+printedLines rest (l ∷ ls) = afterFirst rest (factsOf l) ls
 
+-- the line program's: then an answer for each line
 unfoldable pub printed : List ℕ → List ℕ
-printed input = printedLines (linesOf input)
+printed input = printedLines answers (linesOf input)
 
 -- the law of the line program: the texts of its steps over the lines of any division of an input, taken into a buffer that is longer than any good
 -- line, are what is printed for the input

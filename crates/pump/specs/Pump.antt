@@ -13,6 +13,11 @@ pieceInside room (Bytes n) = n ≤ room
 pieceInside room End = Unit {0}
 pieceInside room Unread = Unit {0}
 
+-- where the buffer has less than what waits, that is not written
+abbrev pub wroteInside : Bool → Bool → Type 0
+wroteInside true wrote = wrote ≡ false
+wroteInside false wrote = Unit {0}
+
 -- where there is room, as much waits as did; else nothing does, or the write failed
 abbrev pub roomMade : Bool → ℕ → Wrote → Type 0
 roomMade true waiting (Waiting n) = n ≡ waiting

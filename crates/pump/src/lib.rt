@@ -1,8 +1,9 @@
 // What moves a line program's bytes: a piece read, what waits written, and what goes wrong outside told on standard error.
 // Rests on stores for what has room; what is read or written no contract can say, so these promise ranges.
+ghost use lib.Dec.{ltb};
 ghost use lib.ListN.{length};
 ghost use Rattle.stores.specs.Stores.{fits};
-ghost use Rattle.pump.specs.Pump.{pieceInside, roomMade};
+ghost use Rattle.pump.specs.Pump.{pieceInside, wroteInside, roomMade};
 
 // The next piece of the input: so many bytes of it; none, where the input has ended; or a read that failed, which is told.
 pub enum Piece {
@@ -52,7 +53,9 @@ pub fn next_piece(piece: &mut [u8], held: usize) -> Piece
 }
 
 // Writes the text that waits at the start of a buffer to standard output, and says whether all of it was written; where it was not, that is told.
-pub fn write_waiting(out: &[u8], waiting: usize) -> bool {
+pub fn write_waiting(out: &[u8], waiting: usize) -> bool
+    ensures { λ r. ⌜ wroteInside (ltb (length (now (out .entry))) waiting) r ⌝ }
+{
     if out.len() < waiting {
         say_no_room();
         return false;
