@@ -1,5 +1,5 @@
 // What is wrong with a turn of building, as the number of its refusal: its order first, by how far the build is, then what it is given. Rests on
-// append for the first of two numbers, on front for the fixed fields, and on given for the rules of values.
+// build_append for the first of two numbers, on build_front for the fixed fields, and on build_given for the rules of values.
 ghost use mathlib.Core.List.{map};
 ghost use mathlib.Core.Path.{_≡_};
 ghost use lib.Dec.{eqb};

@@ -1,5 +1,5 @@
 -- FORMAT fields passed one after the other: one turn of the walk for their chosen bytes. Rests on specs/Chosen, on
--- people for their size, and on fetch for the field at the front of a list.
+-- choice for their size, and on fetch for the field at the front of a list.
 use mathlib.Core.Path.{_≡_, refl}
 use mathlib.Core.List.{List, [], _++_}
 use mathlib.Core.Bool.{true}

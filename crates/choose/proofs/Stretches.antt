@@ -1,4 +1,4 @@
--- A stretch of neighbours, stored in one go: where their parts lie, and what is left to store. Rests on specs/Choice and on stores.
+-- A stretch of neighbours, stored in one go: where their parts lie, and what is left to store. Rests on choice/specs/Choice and on stores.
 use mathlib.Core.Path.{_≡_, _∙_}
 use mathlib.Core.List.{List, _∷_, _++_}
 use mathlib.Core.Bool.{true}

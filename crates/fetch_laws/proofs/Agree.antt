@@ -1,5 +1,5 @@
 -- What reading judged sound in the site block, fetching passes to the same place: each kind's step, and so many of them.
--- Rests on specs/Fetch and on the definitions of site.
+-- Rests on fetch/specs/Fetch and on the definitions of site.
 use mathlib.Core.Path.{_≡_, refl, _∙_}
 use mathlib.Core.List.{List}
 use mathlib.Core.Bool.{Bool, true, false}

@@ -1,4 +1,4 @@
--- The bytes that are fetched are the elements that reading judged, of the very field. Rests on proofs/There and proofs/Inside.
+-- The bytes that are fetched are the elements that reading judged, of the very field. Rests on proofs/There and fetch/proofs/Inside.
 use mathlib.Core.Path.{_≡_, refl, _∙_}
 use mathlib.Core.List.{List, [], _∷_}
 use mathlib.Core.Bool.{Bool, true, false}

@@ -1,5 +1,5 @@
 -- What stands at the front of a list depends neither on what follows it nor on its label: integers, descriptors, values, fields, numbers,
--- fixed fields. Rests on the definitions of values, vectors and the layout, and on proofs/Inside, Present and Bytes.
+-- fixed fields. Rests on the definitions of values, vectors and the layout, on fetch/proofs/Inside, and on proofs/Present and Bytes.
 use mathlib.Core.Path.{_≡_, refl, sym, _∙_, ap}
 use mathlib.Core.List.{List, [], _∷_, _++_, append-assoc, map}
 use mathlib.Core.Bool.{Bool, true, false}

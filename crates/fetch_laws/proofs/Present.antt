@@ -1,4 +1,4 @@
--- A value and a field that are there: the descriptor, the key, and where they end. Rests on specs/Fetch and proofs/Inside.
+-- A value and a field that are there: the descriptor, the key, and where they end. Rests on fetch/specs/Fetch and fetch/proofs/Inside.
 use mathlib.Core.Path.{_≡_, refl}
 use mathlib.Core.List.{List}
 use mathlib.Core.Bool.{Bool, true, false}

@@ -1,5 +1,5 @@
 -- Vectors that reading judged sound, once they are shown: no builder's rule is against them, and they take no wider type. Rests on proofs/Elements
--- and on the definitions of vectors and given.
+-- and on the definitions of vectors and build_given.
 use mathlib.Core.Path.{_≡_, refl, ap}
 use mathlib.Core.Logic.{_≢_}
 use mathlib.Core.List.{List, [], _∷_, map}

@@ -1,6 +1,6 @@
 -- Demand 3: choosing people obeys arithmetic. Each law is of any accepted record, a list of bytes as every slice is, and any choice that
--- ascends and is in range; the chosen record is `chosenRecord`, read under the header's facts for that number of people. Rests on choose,
--- chosen and the tally.
+-- ascends and is in range, but for what is answered to others; the chosen record is `chosenRecord`, read under the header's facts for that number of
+-- people. Rests on choose, choose_laws and the tally.
 use Prim.Native.Nat.{ℕ, _+_, _<_, _≤_}
 use mathlib.Core.Path.{_≡_}
 use mathlib.Core.List.{List}
