@@ -1,5 +1,5 @@
 -- An answer told in one number, and what an accepted answer holds as a list of numbers; and the site that reading's numbers hold. Rests on the
--- answers of reading, fetching, showing, tallying, choosing and walking.
+-- answers of reading, fetching, showing, tallying, choosing, printing and walking.
 use Prim.Native.Nat.{ℕ, _+_, _-_, _*_, _%_}
 use mathlib.Core.List.{List, [], _∷_}
 use lib.Dec.{ltb}
@@ -22,6 +22,8 @@ use Rattle.tally.specs.declared.Counting.the-variants.{Counted, Refused as Unco
 use Rattle.tally.specs.declared.Tallied.{Tallied}
 use Rattle.choose.specs.declared.Choosing.{Choosing}
 use Rattle.choose.specs.declared.Choosing.the-variants.{Chosen, Refused as Unchosen}
+use Rattle.vcf_line.specs.declared.Line.{Line}
+use Rattle.vcf_line.specs.declared.Line.the-variants.{Written, Refused as Unwritten}
 use Rattle.walker.specs.declared.Opening.{Opening}
 use Rattle.walker.specs.declared.Opening.the-variants.{First, Refused as Unopened}
 use Rattle.walker.specs.declared.Pair.{Pair}
@@ -125,3 +127,8 @@ talliedNumbers out x = countingNumbers out (x .calls) (x .answer)
 abbrev pub choosingAnswer : Choosing → ℕ
 choosingAnswer (Unchosen r) = refusedAnswer r
 choosingAnswer (Chosen n) = answer 0 n
+
+-- a VCF line: its length
+abbrev pub lineNumber : Line → ℕ
+lineNumber (Unwritten r) = refusedAnswer r
+lineNumber (Written n) = answer 0 n

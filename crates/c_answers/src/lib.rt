@@ -1,11 +1,11 @@
 // An answer told to a caller of another language: one u64 with a refusal's number in its high half and, in its low half, the refusal's
 // place or, with number 0, a length; and what an accepted answer holds, as numbers in a lent slice. And back: the site that reading's numbers
-// hold. Rests on the answers of reading, fetching, showing, tallying, choosing and walking.
+// hold. Rests on the answers of reading, fetching, showing, tallying, choosing, printing and walking.
 ghost use mathlib.Core.Path.{_≡_};
 ghost use Prim.Native.Nat.{_-_};
 ghost use lib.ListN.{length};
 ghost use Rattle.stores.specs.Stores.{filled};
-ghost use Rattle.c_answers.specs.Told.{answer, refusedAnswer, toldAnswer, siteTold, emptySite, readingAnswer, readingNumbers, foundAnswer, foundNumbers, pairAnswer, pairNumbers, openingAnswer, shownAnswer, talliedAnswer, talliedNumbers, countingAnswer, countingNumbers, choosingAnswer};
+ghost use Rattle.c_answers.specs.Told.{answer, refusedAnswer, toldAnswer, siteTold, emptySite, readingAnswer, readingNumbers, foundAnswer, foundNumbers, pairAnswer, pairNumbers, openingAnswer, shownAnswer, talliedAnswer, talliedNumbers, countingAnswer, countingNumbers, choosingAnswer, lineNumber};
 ghost use Rattle.fetch.specs.declared.Found.the-variants.{Field};
 ghost use Rattle.tally.specs.declared.Counting.the-variants.{Counted};
 use calls::Calls;
@@ -18,6 +18,7 @@ use record::Reading;
 use tally::Counting;
 use tally::Tallied;
 use values::Refusal;
+use vcf_line::Line;
 use walker::Opening;
 use walker::Pair;
 
@@ -249,5 +250,15 @@ pub fn tell_choosing(c: Choosing) -> u64
     match c {
         Choosing::Chosen(n) => answer_of(0, n),
         Choosing::Refused(r) => refused_answer(r),
+    }
+}
+
+// Tells the length of the line that was written, or the refusal.
+pub fn tell_line(l: Line) -> u64
+    ensures { λ q. ⌜ q ≡ lineNumber l ⌝ }
+{
+    match l {
+        Line::Written(n) => answer_of(0, n),
+        Line::Refused(r) => refused_answer(r),
     }
 }

@@ -13,9 +13,10 @@ ghost use Rattle.fetch.specs.Fetch.{found, fieldOf};
 ghost use Rattle.elements.specs.Elements.{elementAt};
 ghost use Rattle.tally.specs.Tally.{tallied};
 ghost use Rattle.choose.specs.Choose.{choosing, afterChoosing};
+ghost use Rattle.vcf_line.specs.Line.{namesIn, lineAnswer, afterLine};
 ghost use Rattle.walker.specs.Walk.{opened, pairAt};
 ghost use Rattle.build.specs.Turns.{begun, afterBegin, idGiven, afterId, alleleGiven, afterAllele, filterGiven, afterFilter, infoGiven, afterInfo, formatGiven, afterFormat, built, afterEnd};
-ghost use Rattle.c_answers.specs.Told.{siteTold, readingAnswer, readingNumbers, foundAnswer, foundNumbers, pairAnswer, pairNumbers, openingAnswer, shownAnswer, talliedAnswer, talliedNumbers, choosingAnswer};
+ghost use Rattle.c_answers.specs.Told.{siteTold, readingAnswer, readingNumbers, foundAnswer, foundNumbers, pairAnswer, pairNumbers, openingAnswer, shownAnswer, talliedAnswer, talliedNumbers, choosingAnswer, lineNumber};
 ghost use Rattle.c_state.specs.Kept.{stateOf, turnAnswer, turnNumbers, freshAnswer, freshNumbers};
 ghost use Rattle.c_api.specs.Given.{factsGiven, kindGiven, numberGiven};
 use facts::Facts;
@@ -179,6 +180,40 @@ pub extern "C" fn sikalumdo_choose(
         gt,
     };
     c_answers::tell_choosing(choose::choose(s, facts, choice, buf))
+}
+
+// Writes one VCF data line of the record at the start of a slice into `buf`: the line's length. Names are lent as one text and the ends of the names in it.
+#[no_mangle]
+pub extern "C" fn sikalumdo_vcf_line(
+    s: &[u8],
+    strings: u32,
+    contigs: u32,
+    people: u32,
+    gt: u32,
+    string_text: &[u8],
+    string_ends: &[u32],
+    contig_text: &[u8],
+    contig_ends: &[u32],
+    buf: &mut [u8],
+) -> u64
+    ensures told { λ r. ⌜ r ≡ lineNumber (lineAnswer (factsGiven strings contigs people gt) (namesIn (now («string_text» .entry)) (now («string_ends» .entry))) (namesIn (now («contig_text» .entry)) (now («contig_ends» .entry))) (length (now (buf .entry))) (now (s .entry))) ⌝ }
+    ensures written { λ _. ⌜ now (buf .exit) ≡ afterLine (factsGiven strings contigs people gt) (namesIn (now («string_text» .entry)) (now («string_ends» .entry))) (namesIn (now («contig_text» .entry)) (now («contig_ends» .entry))) (now (buf .entry)) (now (s .entry)) ⌝ }
+{
+    let facts = Facts {
+        strings,
+        contigs,
+        people,
+        gt,
+    };
+    c_answers::tell_line(vcf_line::write_line(
+        s,
+        facts,
+        string_text,
+        string_ends,
+        contig_text,
+        contig_ends,
+        buf,
+    ))
 }
 
 // Opens the walk of the INFO pairs: the place of the first one, or reading's refusal.

@@ -23,7 +23,7 @@ element-inside i n w m h r =
     let q : suc i * w ≤ n * w = mul-le-mul-right w h in
     omega (arith, suc-mul i w)
 
-byte-number : (l : List ℕ) (i : ℕ) → number 1 (drop i l) ≡ getD l i 0
+pub byte-number : (l : List ℕ) (i : ℕ) → number 1 (drop i l) ≡ getD l i 0
 unfolding number le
 byte-number [] zero = refl
 byte-number [] (suc i) = refl

@@ -4,7 +4,10 @@ ghost use mathlib.Core.Logic.{_≢_};
 ghost use mir.Syntax.{w32};
 ghost use mir.Val.{toZ};
 ghost use Rattle.elements.specs.Elements.{shownBy, elementAt, codeCall, callOf, callAt};
-ghost use Rattle.types.specs.Elements.{kind};
+ghost use lib.ListN.{drop};
+ghost use Rattle.words.specs.Words.{number};
+ghost use Rattle.types.specs.Rows.{widthOf};
+ghost use Rattle.types.specs.Elements.{kind, shown};
 use types::Element;
 
 // An element as it is shown: an integer of any width as a signed number with type 3's marks, a float's bits, a byte of text; or nothing past the
@@ -23,6 +26,14 @@ pub enum Call {
     End,
     NoCall,
     Nothing,
+}
+
+// The element of a type that stands at a place of a part, by the 32 bits that it is shown by; past the part's end each byte counts as 0.
+pub fn bits_at(part: &[u8], at: usize, code: u8) -> u32
+    ensures { λ r. ⌜ r ≡ shown code (number (widthOf code) (drop at (now (part .entry)))) ⌝ }
+{
+    let row = types::row_of(code);
+    types::shown_bits(code, words::word_at(part, at, row.width))
 }
 
 // The byte of text at an index from 0; nothing past the last one.

@@ -264,8 +264,8 @@ fn or_none(f: Found) -> Found
     f
 }
 
-// The bytes up to a place, as far as they are lent.
-fn up_to(s: &[u8], end: usize) -> &[u8]
+// The bytes up to a place, as far as they are lent, as that very part.
+pub fn up_to(s: &[u8], end: usize) -> &[u8]
     ensures { λ r. ⌜ now r ≡ take end (now (s .entry)) ⌝ }
     ensures { λ r. ⌜ r .ptr ≡ s .entry .ptr ⌝ }
 {

@@ -1,2 +1,3 @@
 mod Earlier
+mod Parts
 pub mod Turns

@@ -1,11 +1,12 @@
 -- FORMAT fields: a key, no key twice, and people times length elements, each person's vector in turn; GT has its own rule.
 -- Rests on values and vectors.
-use Prim.Native.Nat.{ℕ, zero, suc, _+_, _-_, _<_, _≤_}
+use Prim.Native.Nat.{ℕ, zero, suc, _+_, _-_, _*_, min, _<_, _≤_}
 use mathlib.Core.List.{List, [], _∷_, _++_}
 use lib.Dec.{eqb}
-use lib.ListN.{drop}
+use lib.ListN.{length, take, drop}
 use Rattle.words.specs.Lists.{among}
 use Rattle.words.specs.Pick.{pick}
+use Rattle.types.specs.Rows.{widthOf}
 use Rattle.types.specs.declared.Use.{Use}
 use Rattle.types.specs.declared.Use.the-variants.{Format, Gt as GtUse}
 use Rattle.values.specs.Answers.{refusal, Says, refuses, holds}
@@ -40,6 +41,14 @@ gtAt t n first = record { code = t; len = n; first = first }
 
 abbrev pub noGt : Gt
 noGt = gtAt 0 0 0
+
+-- the bytes of GT's elements for so many people, in the slice that holds the record, as far as it goes
+abbrev pub gtPart : ℕ → Gt → List ℕ → List ℕ
+gtPart people g s = take (people * g .len * widthOf (g .code)) (drop (g .first) s)
+
+-- and where they stand in the slice: at GT's place, or at the slice's end
+unfoldable pub gtPartAt : Gt → List ℕ → ℕ
+gtPartAt g s = min (g .first) (length s)
 
 abbrev pub gtValues : Gt → List ℕ
 gtValues g = g .code ∷ g .len ∷ g .first ∷ []

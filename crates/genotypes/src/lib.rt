@@ -1,12 +1,12 @@
 // The genotype block: FORMAT fields, each a key and a vector for each person, no key twice, to the block's last byte.
 // The block is lent up to its end. Rests on values and vectors, and on fixed for the header's facts.
 ghost use mathlib.Core.Path.{_≡_};
-ghost use Prim.Native.Nat.{_%_, _≤_};
+ghost use Prim.Native.Nat.{_+_, _%_, _≤_};
 ghost use lib.ListN.{drop, length, take};
 ghost use mathlib.Core.List.{[]};
 ghost use Rattle.words.specs.Lists.{among};
 ghost use Rattle.values.specs.Answers.{refusalIn};
-ghost use Rattle.genotypes.specs.Formats.{fieldSays, fieldInside, genotypesSays, roleOf, gtNow, noGt, formatField, formats};
+ghost use Rattle.genotypes.specs.Formats.{fieldSays, fieldInside, genotypesSays, roleOf, gtNow, noGt, formatField, formats, gtPart, gtPartAt};
 use facts::Facts;
 use types::Use;
 use values::Integer;
@@ -228,4 +228,26 @@ pub fn genotype_block(block: &[u8], from: usize, facts: Facts, alleles: u32, cou
         number: 4,
         place: at,
     })
+}
+
+// The bytes of GT's elements, of so many people, as that very part of the slice, as far as it goes.
+pub fn gt_part(s: &[u8], gt: Gt, people: u32) -> &[u8]
+    ensures { λ r. ⌜ now r ≡ gtPart people gt (now (s .entry)) ⌝ }
+    ensures { λ r. ⌜ r .ptr ≡ (s .entry .ptr .0, gtPartAt gt (now (s .entry)) + s .entry .ptr .1) ⌝ }
+{
+    let first = gt.first;
+    let code = gt.code;
+    let len = gt.len as usize;
+    let row = types::row_of(code);
+    let w = row.width as usize;
+    let count = people as usize * len;
+    if values::elements_fit(first, count, w, s.len()) {
+        let stop = first + count * w;
+        return &s[first..stop];
+    }
+    let end = s.len();
+    if end < first {
+        return &s[end..end];
+    }
+    &s[first..end]
 }

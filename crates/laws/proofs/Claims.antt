@@ -10,6 +10,7 @@ use Rattle.laws.proofs.Reading.{readings}
 use Rattle.laws.proofs.Refusals.{refusals}
 use Rattle.laws.proofs.Tallying.{tallying}
 use Rattle.laws.proofs.Tightening.{tightening}
+use Rattle.laws.proofs.VcfLines.{vcf-lines}
 use Rattle.laws.proofs.Witness.{witnessed}
 
 pub claims : Claims
@@ -23,6 +24,7 @@ claims =
       tallying = tallying;
       account = accounts;
       bare = bare;
+      vcf-lines = vcf-lines;
       answers = promises-fix;
       marked = examples;
       witness = witnessed;

@@ -9,6 +9,7 @@ pub mod Reading
 pub mod Refusals
 pub mod Tallying
 pub mod Tightening
+pub mod VcfLines
 pub mod Witness
 pub mod BareSample
 pub mod Cut

@@ -6,9 +6,9 @@ use Rattle.walker.specs.Walk.{pairAt}
 use Rattle.refusal_laws.specs.Numbers.{allGive, table}
 use Rattle.refusal_laws.proofs.Among.{among-wider}
 use Rattle.refusal_laws.proofs.Reading.{reading-refused}
-use Rattle.refusal_laws.proofs.AfterReading.{field-refused, found-refused, fetched-refused, opened-refused, tallied-refused, choosing-refused}
+use Rattle.refusal_laws.proofs.AfterReading.{field-refused, found-refused, fetched-refused, opened-refused, tallied-refused, choosing-refused, line-refused}
 use Rattle.refusal_laws.proofs.Turns.{made-of, begun-refuses, id-refuses, allele-refuses, filter-refuses, info-refuses, format-refuses, end-refuses}
-use Rattle.refusal_laws.proofs.Answers.{reading-answered, found-answered, field-answered, opening-halves, pair-answered, shown-halves, tally-answered, choosing-answered, fresh-answered, turn-answered}
+use Rattle.refusal_laws.proofs.Answers.{reading-answered, found-answered, field-answered, opening-halves, pair-answered, shown-halves, tally-answered, choosing-answered, line-answered, fresh-answered, turn-answered}
 use Rattle.laws.specs.Refusals.{Refusals}
 
 pub refusals : Refusals
@@ -22,6 +22,7 @@ refusals =
       opens = opened-refused;
       tallies = tallied-refused;
       chooses = choosing-refused;
+      prints = line-refused;
       turns = made-of;
       begins = begun-refuses;
       id = id-refuses;
@@ -36,6 +37,7 @@ refusals =
       shown-told = λ code index part. shown-halves (elementAt code index part);
       tally-told = tally-answered;
       choose-told = choosing-answered;
+      line-told = line-answered;
       opening-told = opening-halves;
       pair-told = λ s at out. pair-answered (pairAt s at) out;
       fresh-told = fresh-answered;

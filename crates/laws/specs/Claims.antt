@@ -11,10 +11,11 @@ use Rattle.laws.specs.Reading.{Readings}
 use Rattle.laws.specs.Refusals.{Refusals}
 use Rattle.laws.specs.Tallying.{Tallying}
 use Rattle.laws.specs.Tightening.{Tightening}
+use Rattle.laws.specs.VcfLines.{VcfLines}
 use Rattle.laws.specs.Witness.{Witness}
 
 pub record Claims : Type 1 where
-  -- demand 1: a refusal has a number that 01 lists for its function, at place 0 or at a place of the record, and leaves what was lent as it was
+  -- demand 1: a refusal has a number that 01 or 02 lists for its function, at place 0 or at a place of the record, and leaves what was lent as it was
   pub refusals : Refusals
   -- demand 2, reading: what is told are the bytes there, what an accepted record shows is what is fetched and keeps each of 01's rules, its blocks are
   -- filled to their last byte, and bytes after it make no difference
@@ -32,6 +33,9 @@ pub record Claims : Type 1 where
   pub account : Accounts
   -- a bare 00: where it stands, what is told of it, and what building again makes of it
   pub bare : Bare
+  -- Req 04: a VCF line is of what the record shows and ends with a line feed; under the request's conditions, each of which is needed, two lines tell their
+  -- records apart; QUAL prints as its digits; and the line of a chosen record is of the chosen people
+  pub vcf-lines : VcfLines
   -- uniqueness: two answers that meet a promise are equal, and what is told in numbers can be read from them
   pub answers : Answers
   -- 01's marked examples, M1 to M12

@@ -14,6 +14,7 @@ use Rattle.tally.specs.Tally.{tallied}
 use Rattle.tally.specs.declared.Counting.the-variants.{Refused as Uncounted}
 use Rattle.choose.specs.Choose.{choosing}
 use Rattle.choose.specs.declared.Choosing.the-variants.{Refused as Unchosen}
+use Rattle.vcf_line.specs.Line.{Names, namesIn, lineSays, lineAnswer}
 use Rattle.build.specs.Turns.{begun, idGiven, alleleGiven, filterGiven, infoGiven, formatGiven, built}
 use Rattle.build.specs.declared.Stage.{Stage}
 use Rattle.build.specs.declared.Stage.the-variants.{Fresh, Begun, Named, Alleles, Filtered, Ended}
@@ -21,7 +22,7 @@ use Rattle.build.specs.declared.Builder.{Builder}
 use Rattle.build.specs.declared.Answer.{Answer}
 use Rattle.build.specs.declared.Answer.the-variants.{Taken, Refused}
 use Rattle.build.specs.declared.Turned.{Turned}
-use Rattle.refusal_laws.specs.Numbers.{readingGives, beginGives, idGives, alleleGives, filterGives, infoGives, formatGives, endGives}
+use Rattle.refusal_laws.specs.Numbers.{readingGives, lineGives, beginGives, idGives, alleleGives, filterGives, infoGives, formatGives, endGives}
 use Rattle.laws.specs.Sample.{facts, sampleFront, sample}
 
 -- a byte too few; a length over the most; a site block that ends before ID; an INFO pair that is not counted; no such contig; an ID of type 1; an
@@ -37,6 +38,16 @@ manyAlleles =
     set (sampleFront 0xA1 7 1 2) 26 65
     ++ (0x07 ∷ (flatten (replicate 65 (0x17 ∷ 0x47 ∷ []))
     ++ (0x11 ∷ 0 ∷ 0x11 ∷ 0x02 ∷ 0x11 ∷ 0x0E ∷ 0x11 ∷ 0x03 ∷ 0x21 ∷ 0x02 ∷ 0x03 ∷ 0x04 ∷ 0x81 ∷ [])))
+
+-- four names of no text, and one; and no names
+abbrev pub fourNames : Names
+fourNames = namesIn [] (0 ∷ 0 ∷ 0 ∷ 0 ∷ [])
+
+abbrev pub oneName : Names
+oneName = namesIn [] (0 ∷ [])
+
+abbrev pub noNames : Names
+noNames = namesIn [] []
 
 -- a build that has come so far, with so many bytes, alleles, INFO fields and FORMAT fields; its FORMAT keys are 0
 abbrev pub reached : Stage → ℕ → ℕ → ℕ → ℕ → Builder
@@ -73,6 +84,12 @@ pub record RefusalSample : Type 0 where
   pub tallies : tallied facts manyAlleles .answer ≡ Uncounted (refusal 15 0)
   pub chooses : choosing facts (1 ∷ 0 ∷ []) 50 sample ≡ Unchosen (refusal 14 0)
   pub chooses-short : choosing facts (0 ∷ []) 47 sample ≡ Unchosen (refusal 13 0)
+  -- QUAL below 1 and no name; no name of a contig; a buffer that is a byte too short
+  pub prints
+      : map (λ x. lineSays x .number)
+      (lineAnswer facts noNames noNames 0 (set sample 23 0x3E) ∷ lineAnswer facts fourNames noNames 0 sample
+      ∷ lineAnswer facts fourNames oneName 27 sample ∷ [])
+      ≡ lineGives
   -- out of order, then each rule in 01's order, then a record over the most bytes, then a buffer too short
   pub begins
       : numbersOf (begun (after Ended) 64 facts 0 0 0 0 ∷ begun (after Fresh) 64 facts 1 0 0 0 ∷ begun (after Fresh) 31 facts 0 0 0 0 ∷ []) ≡ beginGives

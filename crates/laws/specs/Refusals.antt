@@ -1,5 +1,6 @@
--- Demand 1: every refusal has a number that 01 lists for its function, at place 0 or at a place of the record, and a refused call leaves what was lent as it
--- was. Rests on refusal_laws for the numbers of each function and for what is said of a refusal, and on the definitions of each answer.
+-- Demand 1: every refusal has a number that 01, or for a VCF line 02, lists for its function, at place 0 or at a place of the record, and a refused call
+-- leaves what was lent as it was. Rests on refusal_laws for the numbers of each function and for what is said of a refusal, and on the definitions of
+-- each answer.
 use Prim.Native.Nat.{ℕ}
 use mathlib.Core.Path.{_≡_}
 use mathlib.Core.List.{List, [], _++_}
@@ -24,19 +25,21 @@ use Rattle.tally.specs.Tally.{nobody, tallied}
 use Rattle.tally.specs.declared.Counting.the-variants.{Refused as Uncounted}
 use Rattle.choose.specs.Choose.{choosing, afterChoosing}
 use Rattle.choose.specs.declared.Choosing.the-variants.{Refused as Unchosen}
+use Rattle.vcf_line.specs.Line.{Names, lineAnswer, afterLine}
+use Rattle.vcf_line.specs.declared.Line.the-variants.{Refused as Unlined}
 use Rattle.build.specs.Order.{turned}
 use Rattle.build.specs.Turns.{begun, afterBegin, idGiven, afterId, alleleGiven, afterAllele, filterGiven, afterFilter, infoGiven, afterInfo, formatGiven, afterFormat, built, afterEnd}
 use Rattle.build.specs.declared.Builder.{Builder}
 use Rattle.build.specs.declared.Turned.{Turned}
 use Rattle.build_laws.specs.Records.{Fit}
-use Rattle.c_answers.specs.Told.{readingAnswer, readingNumbers, foundAnswer, foundNumbers, pairAnswer, pairNumbers, openingAnswer, shownAnswer, talliedAnswer, talliedNumbers, choosingAnswer}
+use Rattle.c_answers.specs.Told.{readingAnswer, readingNumbers, foundAnswer, foundNumbers, pairAnswer, pairNumbers, openingAnswer, shownAnswer, talliedAnswer, talliedNumbers, choosingAnswer, lineNumber}
 use Rattle.c_state.specs.Kept.{turnAnswer, turnNumbers, freshAnswer, freshNumbers}
-use Rattle.refusal_laws.specs.Numbers.{readingGives, fetchingGives, tallyGives, choosingGives, beginGives, idGives, alleleGives, filterGives, infoGives, formatGives, endGives, tellingGives, allGive, table}
+use Rattle.refusal_laws.specs.Numbers.{readingGives, fetchingGives, tallyGives, choosingGives, lineGives, beginGives, idGives, alleleGives, filterGives, infoGives, formatGives, endGives, tellingGives, allGive, table}
 use Rattle.record_laws.specs.Told.{ownLength}
 use Rattle.refusal_laws.specs.Refused.{InRecord, AtStart, AfterReading, MadeOf, Refuses, Halves, Answered}
 
 pub record Refusals : Type 0 where
-  -- the numbers of all functions together are 01's table
+  -- the numbers of all functions together are 01's table, with 17 and 18 of Req 04
   pub numbers : (n : ℕ) → (among n allGive ≡ true → among n table ≡ true) × (among n table ≡ true → among n allGive ≡ true)
   -- reading: 1 to 11, at place 0 or at a place of the record, which is lent so far
   pub reads : (f : Facts) (s : List ℕ) (r : Refusal) → reading f s ≡ Unread r → InRecord readingGives s r
@@ -52,6 +55,9 @@ pub record Refusals : Type 0 where
   -- choosing: reading's, or then 14 or 13 at place 0; and the buffer as it was
   pub chooses : (f : Facts) (cs buf s : List ℕ) (r : Refusal) → choosing f cs (length buf) s ≡ Unchosen r
       → AfterReading choosingGives f s r × (afterChoosing f cs buf s ≡ buf)
+  -- a VCF line: reading's, or then 17, 18 or 13 at place 0; and the buffer as it was
+  pub prints : (f : Facts) (strings contigs : Names) (buf s : List ℕ) (r : Refusal) → lineAnswer f strings contigs (length buf) s ≡ Unlined r
+      → AfterReading lineGives f s r × (afterLine f strings contigs buf s ≡ buf)
   -- a turn of building is made of one number
   pub turns : (st next : Builder) (n : ℕ) (buf new : List ℕ) → MadeOf n st next buf new (turned st n next) (pick (eqb n 0) new buf)
   -- so each turn is refused with the numbers of its own list. What ID and INFO are given is 32 bits an element, or bytes of text
@@ -80,6 +86,9 @@ pub record Refusals : Type 0 where
       (talliedNumbers out (tallied f s))
   pub choose-told : (f : Facts) (cs buf s : List ℕ)
       → Answered (readingGives ++ choosingGives) (ownLength s) (choosingAnswer (choosing f cs (length buf) s)) buf (afterChoosing f cs buf s)
+  pub line-told : (f : Facts) (strings contigs : Names) (buf s : List ℕ)
+      → Answered (readingGives ++ lineGives) (ownLength s) (lineNumber (lineAnswer f strings contigs (length buf) s)) buf
+      (afterLine f strings contigs buf s)
   pub opening-told : (f : Facts) (s : List ℕ) → Halves readingGives (ownLength s) (openingAnswer (opened f s))
   pub pair-told : (s : List ℕ) (at : ℕ) (out : List ℕ)
       → Answered (fetchingGives ++ tellingGives) 0 (pairAnswer (length out) (pairAt s at)) out (pairNumbers out (pairAt s at))

@@ -1,15 +1,18 @@
--- The refusals of what reads a record first: fetching, opening the walk, the tally and choosing give reading's, and then their own at place 0. Rests
--- on proofs/Reading, and on the definitions of each.
+-- The refusals of what reads a record first: fetching, opening the walk, the tally, choosing and a VCF line give reading's, and then their own at place
+-- 0. Rests on proofs/Reading, and on the definitions of each.
 use mathlib.Core.Path.{_≡_, refl}
 use mathlib.Core.Logic.{inl, inr}
 use mathlib.Core.List.{List, [], _∷_}
 use mathlib.Core.Bool.{Bool, true, false}
 use Prim.Native.Nat.{ℕ, zero, suc}
+use native.Mathlib.Nat.{zero-add}
 use native.Mathlib.Omega.{arith}
 use lib.Dec.{ltb}
 use lib.ListN.{length}
+use lib.Seq.{sets}
 use Rattle.words.specs.Lists.{among}
 use Rattle.words.specs.Pick.{pick}
+use Rattle.stores.specs.Stores.{filled}
 use Rattle.values.specs.Answers.{refusal}
 use Rattle.values.specs.declared.Refusal.{Refusal}
 use Rattle.facts.specs.declared.Facts.{Facts}
@@ -34,7 +37,10 @@ use Rattle.choose.specs.Chosen.{chosenRecord}
 use Rattle.choose.specs.Choose.{answerOf, choosing, bufferOf, afterChoosing}
 use Rattle.choose.specs.declared.Choosing.{Choosing}
 use Rattle.choose.specs.declared.Choosing.the-variants.{Chosen, Refused as Unchosen}
-use Rattle.refusal_laws.specs.Numbers.{readingGives, fetchingGives, tallyGives, choosingGives}
+use Rattle.vcf_qual.specs.Qual.{printable}
+use Rattle.vcf_line.specs.Line.{Names, isShort, Printed, line, unprinted, printedAs, printed, answerFor, lineAnswer, bufferFor, afterLine}
+use Rattle.vcf_line.specs.declared.Line.the-variants.{Written, Refused as Unlined}
+use Rattle.refusal_laws.specs.Numbers.{readingGives, fetchingGives, tallyGives, choosingGives, lineGives}
 use Rattle.refusal_laws.specs.Refused.{AtStart, AfterReading}
 use Rattle.refusal_laws.proofs.Among.{among-before, among-behind}
 use Rattle.refusal_laws.proofs.Reading.{reading-refused}
@@ -122,30 +128,61 @@ tallied-refused f s r h = by-reading (reading f s) refl h
         by-test (ltb 64 (t .alleles)) (record { answer = Counted t; calls = callsOf g (t .people) s })
         (λ q m. let z : _≡_ {A = ℕ} 0 1 = cc in omega arith) k
 
--- choosing: 14, then 13, and the buffer as it was
-abbrev Unwritten : Facts → List ℕ → Refusal → List ℕ → List ℕ → Type 0
-Unwritten f s r buf after = AfterReading choosingGives f s r × (after ≡ buf)
+-- reading's refusal or one of these numbers, and the buffer as it was
+abbrev Unwritten : List ℕ → Facts → List ℕ → Refusal → List ℕ → List ℕ → Type 0
+Unwritten numbers f s r buf after = AfterReading numbers f s r × (after ≡ buf)
 
+-- choosing: 14, then 13
 pub choosing-refused : (f : Facts) (cs buf s : List ℕ) (r : Refusal) → choosing f cs (length buf) s ≡ Unchosen r
     → AfterReading choosingGives f s r × (afterChoosing f cs buf s ≡ buf)
 unfolding choosing afterChoosing among
 choosing-refused f cs buf s r h = by-reading (reading f s) refl h
   where
-    by-room : (b : Bool) (n : ℕ) (new : List ℕ) → pick b (Unchosen (refusal 13 0)) (Chosen n) ≡ Unchosen r → Unwritten f s r buf (pick b buf new)
+    by-room : (b : Bool) (n : ℕ) (new : List ℕ) → pick b (Unchosen (refusal 13 0)) (Chosen n) ≡ Unchosen r → Unwritten choosingGives f s r buf (pick b buf new)
     by-room true n new k =
         let e : refusal 13 0 ≡ r = cc in
         (from-start choosingGives f s r (at-start choosingGives 13 r refl e), refl)
     by-room false n new k = let z : _≡_ {A = ℕ} 0 1 = cc in absurd (omega arith)
 
-    by-test : (b : Bool) (x : Choosing) (new : List ℕ) → (x ≡ Unchosen r → Unwritten f s r buf new)
-        → pick b x (Unchosen (refusal 14 0)) ≡ Unchosen r → Unwritten f s r buf (pick b new buf)
+    by-test : (b : Bool) (x : Choosing) (new : List ℕ) → (x ≡ Unchosen r → Unwritten choosingGives f s r buf new)
+        → pick b x (Unchosen (refusal 14 0)) ≡ Unchosen r → Unwritten choosingGives f s r buf (pick b new buf)
     by-test true x new on k = on k
     by-test false x new on k =
         let e : refusal 14 0 ≡ r = cc in
         (from-start choosingGives f s r (at-start choosingGives 14 r refl e), refl)
 
-    by-reading : (x : Reading) → reading f s ≡ x → answerOf cs (length buf) s x ≡ Unchosen r → Unwritten f s r buf (bufferOf cs buf s x)
+    by-reading : (x : Reading) → reading f s ≡ x → answerOf cs (length buf) s x ≡ Unchosen r → Unwritten choosingGives f s r buf (bufferOf cs buf s x)
     by-reading (Unread q) e k = (from-reading choosingGives f s r (cc), refl)
     by-reading (Accepted t g) e k =
         let chosen = chosenRecord t cs s in
         by-test (ascending (t .people) cs) _ _ (λ m. by-room (ltb (length buf) (length chosen)) (length chosen) _ m) k
+
+-- a VCF line: 17, then 18, then 13
+pub line-refused : (f : Facts) (strings contigs : Names) (buf s : List ℕ) (r : Refusal) → lineAnswer f strings contigs (length buf) s ≡ Unlined r
+    → AfterReading lineGives f s r × (afterLine f strings contigs buf s ≡ buf)
+unfolding lineAnswer afterLine printed filled among
+line-refused f strings contigs buf s r h = by-reading (reading f s) refl h
+  where
+    Stays : Printed → Type 0
+    Stays x = answerFor (length buf) x ≡ Unlined r → Unwritten lineGives f s r buf (bufferFor buf x)
+
+    own : (n : ℕ) → among n lineGives ≡ true → Stays (unprinted (refusal n 0))
+    own n a k = let e : refusal n 0 ≡ r = cc in (from-start lineGives f s r (at-start lineGives n r a e), refl)
+
+    by-room : (b : Bool) (n : ℕ) (new : List ℕ) → pick b (Unlined (refusal 13 0)) (Written n) ≡ Unlined r → Unwritten lineGives f s r buf (pick b buf new)
+    by-room true n new k = own 13 refl k
+    by-room false n new k = let z : _≡_ {A = ℕ} 0 1 = cc in absurd (omega arith)
+
+    by-line : (l : List ℕ) → Stays (line l)
+    by-line l k = rw (zero-add (length l)) (by-room (ltb (length buf) (length l)) (length l) (sets buf 0 l) k)
+
+    by-tests : (a b c : Bool) (l : List ℕ)
+        → Stays (pick a (pick b (unprinted (refusal 18 0)) (pick c (unprinted (refusal 18 0)) (line l))) (unprinted (refusal 17 0)))
+    by-tests true true c l = own 18 refl
+    by-tests true false true l = own 18 refl
+    by-tests true false false l = by-line l
+    by-tests false b c l = own 17 refl
+
+    by-reading : (x : Reading) → reading f s ≡ x → Stays (printedAs f strings contigs s x)
+    by-reading (Unread q) e = λ k. (from-reading lineGives f s r (cc), refl)
+    by-reading (Accepted t g) e = by-tests (printable (t .qual)) (isShort (f .strings) strings) (isShort (f .contigs) contigs) _

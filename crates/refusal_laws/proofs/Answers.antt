@@ -42,14 +42,17 @@ use Rattle.build.specs.declared.Answer.{Answer}
 use Rattle.build.specs.declared.Answer.the-variants.{Taken, Refused}
 use Rattle.build.specs.declared.Turned.{Turned}
 use Rattle.build.specs.Answers.{answerNumber}
-use Rattle.c_answers.specs.Told.{answer, refusedAnswer, toldAnswer, siteNumbers, readingAnswer, readingNumbers, fieldNumbers, foundAnswer, foundNumbers, pairAnswer, pairNumbers, openingAnswer, shownAnswer, tallyNumbers, countingAnswer, countingNumbers, talliedAnswer, talliedNumbers, choosingAnswer}
+use Rattle.vcf_line.specs.Line.{Names, lineAnswer, afterLine}
+use Rattle.vcf_line.specs.declared.Line.{Line}
+use Rattle.vcf_line.specs.declared.Line.the-variants.{Written, Refused as Unlined}
+use Rattle.c_answers.specs.Told.{answer, refusedAnswer, toldAnswer, siteNumbers, readingAnswer, readingNumbers, fieldNumbers, foundAnswer, foundNumbers, pairAnswer, pairNumbers, openingAnswer, shownAnswer, tallyNumbers, countingAnswer, countingNumbers, talliedAnswer, talliedNumbers, choosingAnswer, lineNumber}
 use Rattle.c_state.specs.Kept.{stateNumbers, turnLow, turnAnswer, heldAfter, turnNumbers, freshAnswer, freshNumbers}
-use Rattle.refusal_laws.specs.Numbers.{readingGives, fetchingGives, tallyGives, choosingGives, tellingGives}
+use Rattle.refusal_laws.specs.Numbers.{readingGives, fetchingGives, tallyGives, choosingGives, lineGives, tellingGives}
 use Rattle.record_laws.specs.Told.{ownLength}
 use Rattle.refusal_laws.specs.Refused.{Told, InRecord, AtStart, Refuses, Halves, Answered}
 use Rattle.refusal_laws.proofs.Among.{among-before, among-behind}
 use Rattle.refusal_laws.proofs.Reading.{reading-refused}
-use Rattle.refusal_laws.proofs.AfterReading.{field-refused, found-refused, opened-refused, tallied-refused, choosing-refused}
+use Rattle.refusal_laws.proofs.AfterReading.{field-refused, found-refused, opened-refused, tallied-refused, choosing-refused, line-refused}
 
 high-half : (n low : ℕ) → answer n low / 4294967296 ≡ n
 unfolding answer
@@ -150,7 +153,7 @@ shown-halves (Float b) = accepted-halves fetchingGives 0 b
 shown-halves (Text b) = accepted-halves fetchingGives 0 b
 shown-halves Nothing = refused-halves fetchingGives 0 (refusal 16 0) (record { number = refl; place = omega arith })
 
--- the tally, and choosing
+-- the tally, choosing, and a VCF line
 pub tally-answered : (f : Facts) (s out : List ℕ)
     → Answered (readingGives ++ tallyGives ++ tellingGives) (ownLength s) (talliedAnswer (length out) (tallied f s)) out
     (talliedNumbers out (tallied f s))
@@ -174,6 +177,17 @@ choosing-answered f cs buf s = by-choosing (choosing f cs (length buf) s) refl
         let k = choosing-refused f cs buf s r e in
         refused _ _ r buf (afterChoosing f cs buf s) (in-record (readingGives ++ choosingGives) [] s r (k .0 .told)) (k .1)
     by-choosing (Chosen n) e = accepted _ (ownLength s) n buf (afterChoosing f cs buf s)
+
+pub line-answered : (f : Facts) (strings contigs : Names) (buf s : List ℕ)
+    → Answered (readingGives ++ lineGives) (ownLength s) (lineNumber (lineAnswer f strings contigs (length buf) s)) buf (afterLine f strings contigs buf s)
+line-answered f strings contigs buf s = by-line (lineAnswer f strings contigs (length buf) s) refl
+  where
+    by-line : (x : Line) → lineAnswer f strings contigs (length buf) s ≡ x
+        → Answered (readingGives ++ lineGives) (ownLength s) (lineNumber x) buf (afterLine f strings contigs buf s)
+    by-line (Unlined r) e =
+        let k = line-refused f strings contigs buf s r e in
+        refused _ _ r buf (afterLine f strings contigs buf s) (in-record (readingGives ++ lineGives) [] s r (k .0 .told)) (k .1)
+    by-line (Written n) e = accepted _ (ownLength s) n buf (afterLine f strings contigs buf s)
 
 -- a fresh state, and a turn: the state's numbers and the buffer
 pub fresh-answered : (ns : List ℕ) → Answered tellingGives 0 (freshAnswer (length ns)) ns (freshNumbers ns)

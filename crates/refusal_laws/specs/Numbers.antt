@@ -1,4 +1,4 @@
--- The numbers of 01's table that a refusal may carry, function by function, in the order in which they are judged. Rests on nothing.
+-- The numbers of 01's table, as 02 lengthens it, that a refusal may carry, function by function, in the order in which they are judged. Rests on nothing.
 use Prim.Native.Nat.{ℕ}
 use mathlib.Core.List.{List, [], _∷_, _++_}
 
@@ -6,7 +6,7 @@ use mathlib.Core.List.{List, [], _∷_, _++_}
 abbrev pub readingGives : List ℕ
 readingGives = 1 ∷ 2 ∷ 3 ∷ 4 ∷ 5 ∷ 6 ∷ 7 ∷ 8 ∷ 9 ∷ 10 ∷ 11 ∷ []
 
--- after reading: fetching, the tally and choosing have these of their own
+-- after reading: fetching, the tally, choosing and a VCF line have these of their own
 abbrev pub fetchingGives : List ℕ
 fetchingGives = 16 ∷ []
 
@@ -15,6 +15,9 @@ tallyGives = 15 ∷ []
 
 abbrev pub choosingGives : List ℕ
 choosingGives = 14 ∷ 13 ∷ []
+
+abbrev pub lineGives : List ℕ
+lineGives = 17 ∷ 18 ∷ 13 ∷ []
 
 -- the turns of building
 abbrev pub beginGives : List ℕ
@@ -42,11 +45,11 @@ endGives = 12 ∷ 13 ∷ []
 abbrev pub tellingGives : List ℕ
 tellingGives = 13 ∷ []
 
--- all of these together; and 01's table
+-- all of these together; and 01's table, with 17 and 18 of Req 04
 abbrev pub allGive : List ℕ
 allGive =
-    readingGives ++ fetchingGives ++ tallyGives ++ choosingGives ++ beginGives ++ idGives ++ alleleGives ++ filterGives ++ infoGives ++ formatGives
-    ++ endGives ++ tellingGives
+    readingGives ++ fetchingGives ++ tallyGives ++ choosingGives ++ lineGives ++ beginGives ++ idGives ++ alleleGives ++ filterGives ++ infoGives
+    ++ formatGives ++ endGives ++ tellingGives
 
 abbrev pub table : List ℕ
-table = 1 ∷ 2 ∷ 3 ∷ 4 ∷ 5 ∷ 6 ∷ 7 ∷ 8 ∷ 9 ∷ 10 ∷ 11 ∷ 12 ∷ 13 ∷ 14 ∷ 15 ∷ 16 ∷ []
+table = 1 ∷ 2 ∷ 3 ∷ 4 ∷ 5 ∷ 6 ∷ 7 ∷ 8 ∷ 9 ∷ 10 ∷ 11 ∷ 12 ∷ 13 ∷ 14 ∷ 15 ∷ 16 ∷ 17 ∷ 18 ∷ []

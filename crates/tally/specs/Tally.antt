@@ -1,13 +1,13 @@
 -- The tally: of a record that is read, and of at most 64 alleles, the calls of its people. Rests on reading and on calls.
-use Prim.Native.Nat.{ℕ, _*_}
+use Prim.Native.Nat.{ℕ}
 use mathlib.Core.List.{List, _∷_}
 use lib.Dec.{ltb, eqb}
-use lib.ListN.{take, drop, replicate}
+use lib.ListN.{replicate}
 use Rattle.words.specs.Pick.{pick}
-use Rattle.types.specs.Rows.{widthOf}
 use Rattle.values.specs.Answers.{refusal, Says, refuses, holds}
 use Rattle.values.specs.declared.Refusal.{Refusal}
 use Rattle.facts.specs.declared.Facts.{Facts}
+use Rattle.genotypes.specs.Formats.{gtPart}
 use Rattle.genotypes.specs.declared.Gt.{Gt}
 use Rattle.record.specs.Reading.{reading}
 use Rattle.record.specs.declared.Reading.{Reading}
@@ -25,8 +25,7 @@ nobody people = record { without = people; counts = replicate 65 0 }
 -- where GT has no length, or there is none, everybody is without a genotype; else its elements are counted
 unfoldable pub callsOf : Gt → ℕ → List ℕ → Calls
 callsOf g people s =
-    pick (eqb (g .len) 0) (nobody people)
-    (counted (g .code) (g .len) (take (people * g .len * widthOf (g .code)) (drop (g .first) s)))
+    pick (eqb (g .len) 0) (nobody people) (counted (g .code) (g .len) (gtPart people g s))
 
 -- 01's number and values for each case, of a tally with these calls: the refusal; or alleles and people, people without a genotype, missing alleles,
 -- and the calls of each of 64 alleles

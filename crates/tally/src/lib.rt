@@ -37,22 +37,11 @@ pub fn calls_of(s: &[u8], gt: Gt, people: u32) -> Calls
     ensures { λ r. ⌜ r ≡ callsOf gt people (now (s .entry)) ⌝ }
 {
     let code = gt.code;
-    let first = gt.first;
     let len = gt.len as usize;
     if len == 0 {
         return without_all(people as u64);
     }
-    let row = types::row_of(code);
-    let w = row.width as usize;
-    let count = people as usize * len;
-    if values::elements_fit(first, count, w, s.len()) {
-        let stop = first + count * w;
-        return calls::count_calls(&s[first..stop], code, len);
-    }
-    if s.len() < first {
-        return calls::count_calls(&s[..0], code, len);
-    }
-    calls::count_calls(&s[first..], code, len)
+    calls::count_calls(genotypes::gt_part(s, gt, people), code, len)
 }
 
 // A refusal, with every counter 0.

@@ -33,7 +33,8 @@ use Rattle.calls.proofs.Counters.{howMany-append}
 use Rattle.calls.proofs.Sound.{refused, both-sound}
 use Rattle.tally.specs.Tally.{callsOf}
 use Rattle.tally_laws.specs.Slots.{gtPeople, isSlot, slotsOf, allSlots, count, slotCall, isMissing, isAllele}
-use Rattle.tally_laws.proofs.Gt.{gtPart, GtSound, length-gtPart}
+use Rattle.genotypes.specs.Formats.{gtPart}
+use Rattle.tally_laws.proofs.Gt.{GtSound, length-gtPart}
 use Rattle.tally_laws.proofs.Slots.{people-none, slots-people, tally-people}
 
 -- a type of integers, one by one

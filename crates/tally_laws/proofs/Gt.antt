@@ -20,7 +20,7 @@ use Rattle.vectors.specs.Vectors.{judged, vectors}
 use Rattle.vectors.specs.declared.Judged.the-variants.{Sound}
 use Rattle.facts.specs.declared.Facts.{Facts}
 use Rattle.fixed.specs.declared.Site.{Site}
-use Rattle.genotypes.specs.Formats.{formats, roleOf, gtNow, gtAt, noGt}
+use Rattle.genotypes.specs.Formats.{formats, roleOf, gtNow, gtAt, noGt, gtPart}
 use Rattle.genotypes.specs.declared.Gt.{Gt}
 use Rattle.genotypes.specs.declared.Genotypes.the-variants.{Sound as Blocked}
 use Rattle.record.specs.Reading.{reading, genotypesOf}
@@ -36,10 +36,6 @@ use Rattle.choose_laws.proofs.Filled.{opened}
 use Rattle.choose_laws.proofs.Stored.{Bytes-drop, Bytes-take}
 use Rattle.keeps_laws.proofs.Elements.{by-wide}
 use Rattle.keeps_laws.proofs.Descriptors.{Stands, empty, filled, described-long}
-
--- the bytes of GT's elements
-abbrev pub gtPart : ℕ → Gt → List ℕ → List ℕ
-gtPart people g s = take (people * g .len * widthOf (g .code)) (drop (g .first) s)
 
 pub record GtSound (people alleles : ℕ) (s : List ℕ) (g : Gt) : Type 0 where
   pub inside : g .first + people * g .len * widthOf (g .code) ≤ length s

@@ -17,6 +17,7 @@ use Rattle.vectors.specs.Sound.{codeMost}
 use Rattle.vectors.specs.Vectors.{numbers, elementTurn, follow, vector, vectors, judged}
 use Rattle.vectors.specs.declared.Judged.the-variants.{Sound}
 use Rattle.vectors.specs.declared.Turn.the-variants.{Bad, On}
+use Rattle.genotypes.specs.Formats.{gtPart}
 use Rattle.genotypes.specs.declared.Gt.{Gt}
 use Rattle.calls.specs.Calls.{before, slots, alleles, people, called, noSlot, without, peopleTally, peopleOf}
 use Rattle.calls.specs.Totals.{total, slotCount}
@@ -27,7 +28,7 @@ use Rattle.tally.specs.Tally.{callsOf, nobody}
 use Rattle.tally.proofs.Parts.{callsOf-none, callsOf-part}
 use Rattle.choose_laws.proofs.Divided.{counted-people}
 use Rattle.tally_laws.specs.Slots.{gtPeople, isSlot, slotsOf, allSlots, isSome, count}
-use Rattle.tally_laws.proofs.Gt.{gtPart, GtSound, length-gtPart}
+use Rattle.tally_laws.proofs.Gt.{GtSound, length-gtPart}
 
 -- in a vector that is sound nothing but ends follows an end
 ended-none : (most t w at : ℕ) (xs : List ℕ) → vector most t w at true xs ≡ Sound → slotsOf t xs ≡ []

@@ -1,15 +1,15 @@
 -- GT's elements of each person, which of them are slots, and what a slot says. An element is a slot because it is no end of vector, wherever it stands.
 -- Rests on where GT stands, on types' kinds of element and on what a code of GT says.
-use Prim.Native.Nat.{ℕ, _+_, _*_}
+use Prim.Native.Nat.{ℕ, _+_}
 use mathlib.Core.List.{List, [], _∷_, _++_}
 use mathlib.Core.Bool.{Bool, true, false}
 use lib.Dec.{eqb}
-use lib.ListN.{take, drop}
 use Rattle.words.specs.Pick.{pick}
 use Rattle.types.specs.Rows.{widthOf}
 use Rattle.types.specs.Elements.{kind, shown}
 use Rattle.types.specs.declared.Element.{Element}
 use Rattle.types.specs.declared.Element.the-variants.{Plain, Missing as MissingMark, End as EndMark, Reserved}
+use Rattle.genotypes.specs.Formats.{gtPart}
 use Rattle.genotypes.specs.declared.Gt.{Gt}
 use Rattle.elements.specs.Elements.{shownBy, callShown}
 use Rattle.elements.specs.declared.Call.{Call}
@@ -18,7 +18,7 @@ use Rattle.calls.specs.Calls.{people}
 
 -- each person's elements of GT, as the numbers of their bytes; where there is no GT, or it has no length, nobody has any
 unfoldable pub gtPeople : Gt → ℕ → List ℕ → List (List ℕ)
-gtPeople g n s = people (widthOf (g .code)) (g .len) n (take (n * g .len * widthOf (g .code)) (drop (g .first) s))
+gtPeople g n s = people (widthOf (g .code)) (g .len) n (gtPart n g s)
 
 -- an end of vector is no slot; every other element is one
 abbrev pub isSlot : Element → Bool

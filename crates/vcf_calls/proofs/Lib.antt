@@ -1,0 +1,3 @@
+pub mod Pairs
+pub mod People
+pub mod Words

@@ -1,0 +1,3 @@
+pub mod Columns
+pub mod Conditions
+pub mod Lines
