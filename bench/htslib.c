@@ -1,9 +1,9 @@
 /* Times htslib at what the bench times: a file of one record many times, lent from memory, is read to its end, and each
-   record is unpacked, tallied, cut to the people who stay, or built again. Prints the median and the least microseconds
-   for one record over samples of some records each. htslib judges less than the library does: descriptors and keys, but
-   no elements.
+   record is unpacked, tallied, cut to the people who stay, printed without its INFO field, or built again. Prints the
+   median and the least microseconds for one record over samples of some records each. htslib judges less than the library
+   does: descriptors and keys, but no elements.
 
-     htslib (read|tally|choose|build) FILE RECORDS */
+     htslib (read|tally|choose|build|line) FILE RECORDS */
 #include <htslib/hfile.h>
 #include <htslib/vcf.h>
 #include <htslib/vcfutils.h>
@@ -50,11 +50,20 @@ struct Work {
     bcf1_t *built;
     htsFile *nowhere;
     int calls[2];
+    kstring_t line;
 };
 
 static void tally(struct Work *work, bcf1_t *record) {
     check(bcf_unpack(record, BCF_UN_ALL) == 0, "not unpacked");
     check(bcf_calc_ac(work->header, record, work->calls, BCF_UN_FMT) == 1, "not counted");
+}
+
+/* Prints the record over the line before, whose room is kept. */
+static void print(struct Work *work, bcf1_t *record) {
+    check(bcf_unpack(record, BCF_UN_ALL) == 0, "not unpacked");
+    check(bcf_update_info_int32(work->header, record, "TD", NULL, 0) == 0, "INFO not removed");
+    work->line.l = 0;
+    check(vcf_format(work->header, record, &work->line) == 0, "not printed");
 }
 
 /* Encodes the record from plain numbers and writes it where nothing is kept. */
@@ -78,6 +87,8 @@ static void do_task(struct Work *work, bcf1_t *record) {
         check(bcf_unpack(record, BCF_UN_ALL) == 0, "not unpacked");
     else if (!strcmp(work->task, "tally"))
         tally(work, record);
+    else if (!strcmp(work->task, "line"))
+        print(work, record);
     else
         check(bcf_subset(work->header, record, work->stay, work->map) == 0, "not cut");
 }
@@ -166,7 +177,7 @@ static char *whole_file(const char *name, size_t *length) {
 }
 
 int main(int count, char **words) {
-    check(count == 4, "usage: htslib (read|tally|choose|build) FILE RECORDS");
+    check(count == 4, "usage: htslib (read|tally|choose|build|line) FILE RECORDS");
     struct Work work = {.task = words[1]};
     struct Reader reader = {.record = must(bcf_init())};
     reader.bytes = whole_file(words[2], &reader.length);

@@ -1,7 +1,7 @@
 /*
  * Sikalumdo for C and C++: reads one uncompressed BCF2 record at a time, fetches its values, walks its INFO pairs,
- * tallies its genotypes, chooses people, and builds a record turn by turn. Link libc_api.a. A loader reads a record
- * once and then fetches by the numbers that reading told:
+ * tallies its genotypes, chooses people, writes its VCF line, and builds a record turn by turn. Link libc_api.a. A
+ * loader reads a record once and then fetches by the numbers that reading told:
  *
  *     uint64_t site[SIKALUMDO_SITE_NUMBERS], field[SIKALUMDO_FIELD_NUMBERS];
  *     uint64_t answer = sikalumdo_read(bytes, count, 4, 1, 2, 3, site, SIKALUMDO_SITE_NUMBERS);
@@ -42,6 +42,9 @@
  *     14   choice not ascending or out of range                                    0
  *     15   tally of more than 64 alleles                                           0
  *     16   no field, pair or element of that number                                0
+ *     17   QUAL that is not missing and no whole number of 0 to 16,777,215, for a
+ *          VCF line                                                                0
+ *     18   a list of names shorter than its dictionary                             0
  *
  * READING'S REFUSALS, which each function that takes the facts of a record gives first: under 8 bytes (1), 2, 1,
  * l_shared below 24 (3), and then 3 to 11 at the first byte that breaks a rule, each block ending with 4. In
@@ -203,6 +206,28 @@ uint64_t sikalumdo_tally(const uint8_t *s, size_t s_len, uint32_t strings, uint3
  */
 uint64_t sikalumdo_choose(const uint8_t *s, size_t s_len, uint32_t strings, uint32_t contigs, uint32_t people,
                           uint32_t gt, const uint32_t *choice, size_t choice_len, uint8_t *buf, size_t buf_len);
+
+/*
+ * Writes the VCF line of the record at the start of `s`, with tabs between its columns and a line feed at its end:
+ * CHROM, POS (the first base is 1), ID, REF, ALT, QUAL, FILTER, a dot for INFO and, where the record has a GT field, a
+ * FORMAT of GT alone and the call of each person. Without GT the line has eight columns.
+ *   - Names are lent as one text and the list of their ends in it: name i runs from end i - 1 (the first from 0) to
+ *     end i, as far as the text goes, is nothing where the ends fall, and stops at its first zero byte. It prints as it
+ *     is, an empty one as nothing. A list may have more names than `strings` or `contigs` says.
+ *   - A dot stands for an ID of no text (up to its first zero byte), no ALT, no filter, and a person without a call.
+ *     Several filters have semicolons between. QUAL is a dot where it is missing, and digits; negative zero prints 0.
+ *   - Before each allele of a call but the first stands its own phase, | or /. A missing allele is a dot; the missing
+ *     mark is one that is not phased.
+ * Answers the line's length in bytes, or the low 32 bits of it: lend less than 4 GiB, and it is the length. Refusals:
+ * reading's; 17 for any other QUAL; 18 where string_ends_len is below
+ * `strings` or contig_ends_len below `contigs`; then 13 where `buf` is shorter than the line.
+ * Writes the line at the start of `buf`; bytes after it stay.
+ */
+uint64_t sikalumdo_vcf_line(const uint8_t *s, size_t s_len, uint32_t strings, uint32_t contigs, uint32_t people,
+                            uint32_t gt, const uint8_t *string_text, size_t string_text_len,
+                            const uint32_t *string_ends, size_t string_ends_len, const uint8_t *contig_text,
+                            size_t contig_text_len, const uint32_t *contig_ends, size_t contig_ends_len, uint8_t *buf,
+                            size_t buf_len);
 
 /*
  * Opens a walk over the INFO pairs of the record at the start of `s`.

@@ -1,7 +1,7 @@
 #!/usr/bin/env bash
 # Compares the proved library with the plain one over a million made inputs, or as the arguments say, and prints any difference.
 #
-#   tests/differential.sh                            # about 50 seconds on one core
+#   tests/differential.sh                            # about 80 seconds on one core
 #   tests/differential.sh --seconds 600 --seed 7
 #
 # Its exit status is 1 if there is any difference. Without cargo or a C compiler it is skipped with a word.

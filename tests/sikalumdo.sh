@@ -3,6 +3,7 @@
 # - `cut` gives what `bcftools view -I` gives, to the last byte, the header included, over cohorts with every kind of field, haploid and
 #   missing calls and bare 00; where nobody stays bcftools drops FORMAT lines from the header, so there the records are compared.
 # - `tally` gives what the VCF text says (tests/cohorts/say.py), and a record's place, ID and alleles as bcftools prints them.
+# - `vcf` gives the lines of `bcftools annotate -x INFO,^FORMAT/GT`, and its header, and those that the VCF text says; bcftools reads it back.
 # - `audit` accepts each release, ours and bcftools's own, and finds each of the ways in which tests/sikalumdo/tamper.py damages one.
 # - Bad input gets one line and the status 2, and nothing is left behind (tests/sikalumdo/fuzz.py over thousands of damaged files).
 set -euo pipefail
@@ -74,7 +75,40 @@ said() {
       print $1 "\t" $2 "\t" $3 "\t" $4 "\t" $5 "\t" a[6] "\t" a[7] "\t" a[8] "\t" calls }'
 }
 
-# cohort NAME: a cohort made, checked, tallied and cut
+# Of the QUALs of the cohorts 0.001 and -3.5 are refused, and have no line; 1e6 is printed with all its digits, where bcftools has 1e+06.
+# texted NAME: the lines with GT alone that the VCF text says; who leaves off GT has a dot, and a record without GT dots for FORMAT and everybody
+texted() {
+  awk -F'\t' -v OFS='\t' '/^#/ || $6 == "0.001" || $6 == "-3.5" { next }
+    { gt = 0; n = split($9, names, ":"); for (i = 1; i <= n; i++) if (names[i] == "GT") gt = i
+      for (i = 10; i <= NF; i++) { split($i, values, ":"); $i = gt in values ? values[gt] : "." }
+      $8 = "."; if (NF > 8) $9 = gt ? "GT" : "."; if ($6 == "1e6") $6 = "1000000"; print }' "$made/$1.vcf"
+}
+
+# peers FILE: the same by bcftools
+peers() {
+  bcftools annotate --no-version -x INFO,^FORMAT/GT -Ou "$1" | bcftools view --no-version -H - |
+    awk -F'\t' -v OFS='\t' '$6 == "0.001" || $6 == "-3.5" { next } { if ($6 == "1e+06") $6 = "1000000"; print }'
+}
+
+# printed NAME: the cohort as VCF text, and a word for each record without a line
+printed() {
+  local file=$made/$1 status=0
+  "$program" vcf "$file.bcf" >"$file.text" 2>"$made/said" || status=$?
+  grep -v '^#' "$file.text" >"$made/lines"
+  expect "the lines that the text of $1 says" <(texted "$1") <"$made/lines"
+  # bcftools 1.16 prints the missing mark of a GT that somebody leaves off as a number.
+  [ "$1" = left-off ] || expect "the lines of bcftools for $1" <(peers "$file.bcf") <"$made/lines"
+  expect "a word for each record of $1 without a line, and status 1" \
+    <(awk -F'\t' '/^#/ { next } { n++ } $6 == "0.001" || $6 == "-3.5" { print "record " n " (" $1 ":" $2 ")" } END { print 1 }' "$file.vcf") \
+    < <(sed -n 's/ at byte [0-9]*: refusal 17 at byte 0 of the record: .*//p' "$made/said"; echo $status)
+  "$program" vcf - -o "$made/again" --threads 3 --quiet <"$file.plain" 2>/dev/null && fail "status 0 for the text of $1"
+  expect "the same text of $1 in a file" "$file.text" <"$made/again"
+  # bcftools keeps the line of GT where there is nobody.
+  expect "the header of bcftools for $1" <(bcftools annotate --no-version -x INFO,^FORMAT/GT "$file.bcf" | grep '^#' | grep -v "${2:-^$}") < <(grep '^#' "$file.text")
+  expect "the lines that bcftools reads back of $1" "$made/lines" < <(bcftools view --no-version -H "$file.text" | sed 's/\t1e+06\t/\t1000000\t/')
+}
+
+# cohort NAME: a cohort made, checked, tallied, printed and cut
 cohort() {
   local file=$made/$1
   python3 tests/cohorts/make.py "$1" >"$file.vcf"
@@ -87,7 +121,8 @@ cohort() {
   "$program" tally - --threads 3 <"$file.plain" >"$made/again" 2>/dev/null || true
   expect "the same tally of $1 from standard input" "$file.tally" <"$made/again"
   bcftools query -l "$file.bcf" >"$made/everybody"
-  [ -s "$made/everybody" ] || return 0
+  [ -s "$made/everybody" ] || { printed "$1" '^##FORMAT'; return 0; }
+  printed "$1"
   awk 'NR % 3 == 1' "$made/everybody" >"$made/third"
   awk 'NR % 5 == 2' "$made/everybody" >"$made/gone"
   tail -n 1 "$made/everybody" >"$made/last"
@@ -167,6 +202,36 @@ bcftools annotate --no-version -x INFO/DP,FORMAT/AD -Ou "$made/three.bcf" >"$mad
 expect "the bytes of bcftools with gaps" <(bcftools view --no-version -I -S "^$made/names" -Ou "$made/gaps.bcf") <"$made/ours"
 ends 0 'is what it should be' audit "$made/gaps.bcf" "$made/ours" --without "$made/names"
 
+# Files that are kept: the lines of bcftools where QUAL is whole or missing, and no others. (Its 1e+06 is here 1000000.5, which is refused.)
+for kept in tests/real/cohort.bcf samples/cohort.bcf; do
+  "$program" vcf "$kept" >"$made/text" 2>/dev/null || true
+  expect "the lines of bcftools for $kept" < <(grep -v '^#' "$made/text") \
+    <(bcftools annotate --no-version -x INFO,^FORMAT/GT -Ou "$kept" | bcftools view --no-version -H - | awk -F'\t' '$6 ~ /^([.]|[0-9]+)$/')
+done
+
+# Names by IDX, with gaps; a header without GT, which leaves no columns for people; QUALs at the ends of what is printed.
+"$program" vcf "$made/gaps.bcf" >"$made/text" 2>/dev/null || true
+expect "the lines of bcftools with gaps" <(peers "$made/gaps.bcf") < <(grep -v '^#' "$made/text")
+bcftools annotate --no-version -x FORMAT/GT -Ou "$made/three.bcf" >"$made/no-gt.bcf"
+"$program" vcf "$made/no-gt.bcf" >"$made/text" 2>/dev/null || true
+expect "eight columns without GT" <(bcftools view --no-version -G -H "$made/text" | sed 's/\t1e+06\t/\t1000000\t/') < <(grep -v '^#' "$made/text")
+[ "$(grep -v '^##' "$made/text" | awk -F'\t' '{ print NF }' | sort -u)" = 8 ] || fail 'not eight columns throughout'
+{ printf '##fileformat=VCFv4.2\n##contig=<ID=1>\n#CHROM\tPOS\tID\tREF\tALT\tQUAL\tFILTER\tINFO\n'
+  for qual in 16777215 123456789 -0 . 1e-40 inf; do printf '1\t7\t.\tA\tC\t%s\t.\t.\n' $qual; done; } | bcftools view --no-version -Ou - >"$made/quals.bcf"
+ends 1 '^record 2 (1:7) at byte .*: refusal 17 at byte 0 of the record: QUAL is not printable' vcf "$made/quals.bcf"
+ends 1 '3 of 6 records were refused and have no line$' vcf "$made/quals.bcf"
+expect 'the QUALs that are printed' <(printf '16777215\n0\n.\n') < <("$program" vcf "$made/quals.bcf" 2>/dev/null | grep -v '^#' | cut -f6)
+ends 1 '^record 2 (20:997) at byte .*: refusal 5 at byte 16 of the record: ' vcf "$made/refused.bcf" -o "$made/text"
+ends 1 '^record 701 (20:1) at byte .*: refusal 2 at byte 0 of the record: ' vcf "$made/long.bcf" --threads 2 -o "$made/text"
+python3 - "$made/quals.bcf" "$made/far.bcf" <<'PY'
+import struct, sys
+data = open(sys.argv[1], "rb").read()
+start = 9 + struct.unpack_from("<I", data, 5)[0]
+text = data[9:start].replace(b"##contig=<ID=1,IDX=0>", b"##contig=<ID=1,IDX=4294967294>")
+open(sys.argv[2], "wb").write(data[:5] + struct.pack("<I", len(text)) + text + data[start:])
+PY
+ends 2 'the largest offset of the contigs is 4294967294; expected one below' vcf "$made/far.bcf" -o "$made/none"
+
 # Names
 : >"$made/empty"
 printf 'P1\nP1\n' >"$made/twice"
@@ -178,7 +243,7 @@ ends 2 "nobody has the name 'P3'" cut "$three" --only "$made/stranger" -o "$made
 ends 0 '3 people stay, 0 left' cut "$three" --without "$made/empty" --nobody -o "$made/all"
 expect "the file itself where nobody leaves" "$three" <"$made/all"
 ends 0 '0 people stay, 3 left' cut "$three" --only "$made/empty" --nobody -o "$made/all"
-ends 2 'the release would replace its source' cut "$three" --without "$made/names" -o "$three"
+ends 2 'it would replace its source' cut "$three" --without "$made/names" -o "$three"
 
 # Usage and files
 ends 2 'no command' ''
@@ -187,7 +252,9 @@ ends 2 'expected 1' check
 ends 2 'expected a number from 1' check --threads 0 "$three"
 ends 2 'no release is named' cut "$three" --without "$made/names"
 ends 2 'no list of names' audit "$three" "$three"
-for command in check tally cut audit; do ends 0 '^Example: ' $command -h; done
+ends 2 'it would replace its source' vcf "$three" -o "$three"
+ends 2 'has no option -O' vcf "$three" -O b
+for command in check tally cut audit vcf; do ends 0 '^Example: ' $command -h; done
 ends 2 'cannot be opened: No such file' check "$made/nothing"
 ends 2 'it is a folder' check "$made"
 ends 2 'the file is empty; expected BCF' check "$made/empty"
@@ -220,7 +287,9 @@ ln -s behind "$made/link"
 ends 0 '2 people stay, 1 left' cut "$three" --without "$made/names" -o "$made/link"
 { [ -L "$made/link" ] && [ -s "$made/behind" ]; } || fail 'a link is replaced'
 
-count=$((count + 3))
+count=$((count + 4))
+status=0; "$program" vcf "$three" >/dev/full 2>"$made/said" || status=$?
+{ [ $status -eq 2 ] && grep -q 'No space left' "$made/said"; } || fail 'a full disk is not heard of in vcf'
 status=0; "$program" tally "$three" >/dev/full 2>"$made/said" || status=$?
 { [ $status -eq 2 ] && grep -q 'No space left' "$made/said"; } || fail 'a full disk is not heard of'
 status=0; "$program" cut "$three" --without "$made/names" -o /dev/full 2>"$made/said" || status=$?

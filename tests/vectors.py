@@ -1,6 +1,6 @@
 """Runs the vectors of tests/vectors through the library that tools/host compiles: reading, fetching (at once, and from a record that was
-read), walking, tallying, choosing and building, each answer and each lent buffer whole. The vectors come from an implementation that
-shares nothing with this one.
+read), walking, tallying, choosing, building and VCF lines, each answer and each lent buffer whole. The vectors come from an
+implementation that shares nothing with this one.
 
     tests/vectors.sh
 """
@@ -101,6 +101,18 @@ def choose(case, record):
     return {"answer": told(answer, lambda: answer), "buffer": shown(held)}
 
 
+def names(given):
+    """A list of names as it is lent: the text, and where each name ends in it."""
+    text = bytes.fromhex(given["text"])
+    return [text, len(text), *lent(ctypes.c_uint32, given["ends"])]
+
+
+def vcf_line(case, record):
+    lists, held = [*names(case["strings"]), *names(case["contigs"])], buffer(case["room"])
+    answer = library.sikalumdo_vcf_line(record, len(record), *case["facts"], *lists, *held)
+    return {"answer": told(answer, lambda: answer), "buffer": shown(held)}
+
+
 def value(kind, elements):
     """The name of a turn's function, and the value as it is lent."""
     if kind == "int":
@@ -141,7 +153,7 @@ def build(case, record):
 
 def main():
     runs = [("read", read), ("fetch", fetch), ("fetch", field_of), ("walk", walk), ("tally", tally), ("choose", choose),
-            ("build", build)]
+            ("build", build), ("vcf_line", vcf_line)]
     ran, wrong = collections.Counter(), 0
     for name, run in runs:
         for number, line in enumerate((ROOT / "tests" / "vectors" / f"{name}.jsonl").read_text("utf-8").splitlines(), 1):

@@ -13,7 +13,7 @@ use std::path::{Path, PathBuf};
 use std::process::Command;
 
 use record::Record;
-use tasks::{building, choosing, fetching, reading, tallying, Task};
+use tasks::{building, choosing, fetching, printing, reading, tallying, Task};
 use timing::Times;
 
 fn main() {
@@ -42,7 +42,7 @@ fn main() {
     }
 }
 
-fn tasks() -> [Task; 9] {
+fn tasks() -> [Task; 10] {
     let full = || Record::new(10_000, 0, true);
     [
         reading("read, 10,000 people, GT DP GQ", full()),
@@ -52,6 +52,7 @@ fn tasks() -> [Task; 9] {
         tallying("read + tally, 10,000 people, GT, half haploid", Record::new(10_000, 2, false)),
         choosing("choose, 40 gone of 10,000, GT DP GQ", full()),
         building("build, 10,000 people, GT DP GQ", full()),
+        printing("VCF line, 10,000 people, GT", Record::new(10_000, 0, false)),
         tallying("read + tally, 100 people, GT DP GQ", Record::new(100, 0, true)),
         tallying("read + tally, 100 people, GT", Record::new(100, 0, false)),
     ]

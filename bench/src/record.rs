@@ -8,6 +8,10 @@ pub const TOTAL: u32 = 2;
 pub const GENOTYPE: u32 = 3;
 pub const QUALITY: u32 = 4;
 
+/// The names of the strings, by offset, and of the contig.
+pub const STRINGS: [&str; 5] = ["PASS", "DP", "TD", "GT", "GQ"];
+pub const CONTIGS: [&str; 1] = ["1"];
+
 const ALLELES: [&[u8]; 2] = [b"G", b"A"];
 pub const END: i32 = i32::MIN + 1;
 pub const QUAL: u32 = 0x41E8_0000;

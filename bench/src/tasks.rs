@@ -3,9 +3,9 @@
 
 use std::hint::black_box;
 
-use sikalumdo::Facts;
+use sikalumdo::{Facts, NameList, Names};
 
-use crate::record::{Format, Record, GENOTYPE, POS, QUAL, TOTAL};
+use crate::record::{Format, Record, CONTIGS, GENOTYPE, POS, QUAL, STRINGS, TOTAL};
 use crate::timing::{by_turns, Times};
 
 /// A task's line of the table: its name, its times, and what htslib is asked to do for it.
@@ -85,6 +85,28 @@ pub fn choosing(name: &'static str, record: Record) -> Task {
     let times = by_turns(&mut ours, &mut plain);
     assert_eq!(our_buf, plain_buf);
     Task { name, times, htslib: "choose", record }
+}
+
+fn plain_names(names: Names<'_>) -> plain::Names<'_> {
+    plain::Names { text: names.text, ends: names.ends }
+}
+
+/// Printing reads the record first. Both have more room than the line takes.
+pub fn printing(name: &'static str, record: Record) -> Task {
+    let (bytes, facts, plain_facts) = (record.bytes(), record.facts, plain_facts(&record.facts));
+    let (strings, contigs): (NameList, NameList) = (STRINGS.into_iter().collect(), CONTIGS.into_iter().collect());
+    let (strings, contigs) = (strings.lend(), contigs.lend());
+    let room = 64 + 4 * facts.people as usize;
+    let (mut our_buf, mut plain_buf) = (vec![0; room], vec![0; room]);
+    let mut ours = || sikalumdo::vcf_line(black_box(&bytes), &facts, strings, contigs, &mut our_buf).expect("a line");
+    let (plain_strings, plain_contigs) = (plain_names(strings), plain_names(contigs));
+    let mut plain = || {
+        plain::vcf_line(black_box(&bytes), &plain_facts, plain_strings, plain_contigs, &mut plain_buf).expect("a line")
+    };
+    assert_eq!(ours(), plain());
+    let times = by_turns(&mut ours, &mut plain);
+    assert_eq!(our_buf, plain_buf);
+    Task { name, times, htslib: "line", record }
 }
 
 /// Declares a function that builds the record turn by turn with one library's builder; they differ in how begin takes

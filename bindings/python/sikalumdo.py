@@ -1,4 +1,4 @@
-"""Sikalumdo for Python: one BCF2 record at a time, read, fetched from, walked, tallied, chosen from or built, on ctypes alone.
+"""Sikalumdo for Python: one BCF2 record at a time, read, fetched from, walked, tallied, cut, printed or built, on ctypes alone.
 
     import sikalumdo
     facts = sikalumdo.Facts(strings=4, contigs=1, people=2, gt=3)
@@ -54,6 +54,8 @@ REASONS = {
     14: "choice not ascending or out of range",
     15: "tally of more than 64 alleles",
     16: "no field of that number",
+    17: "QUAL not printable: it is not missing and no whole number of 0 to 16,777,215",
+    18: "a list of names shorter than its dictionary",
 }
 """What each refusal's number says."""
 
@@ -218,6 +220,36 @@ def choose(record, facts, choice):
     chosen = (ctypes.c_uint8 * (len(record) + 1))()
     answer = _library.sikalumdo_choose(*_lent(record, facts), *_listed("I", choice), chosen, len(chosen))
     return bytes(chosen[:_accepted(answer)])
+
+
+class Names:
+    """Names as the library is lent them, made once for many lines: a list of bytes, one for each string or contig in order.
+
+    A name stops at its first zero byte. A gap in a dictionary has an empty name.
+    """
+
+    def __init__(self, names):
+        """The names of any iterable of bytes-like objects."""
+        names = [_bytes(name) for name in names]
+        self._held = (*_text(b"".join(names)), *_listed("I", itertools.accumulate(map(len, names))))
+
+
+def vcf_line(record, facts, strings, contigs):
+    """The record's VCF line as bytes, ended by a line feed: CHROM to FILTER, a dot for INFO and, with GT, each person's call.
+
+    strings, contigs: the names by offset, each a list of bytes or a Names; they may be more than the facts say. Raises
+    read's refusals, then Refusal 17 for a QUAL that is neither missing nor a whole number of 0 to 16,777,215, then 18
+    for fewer names than the facts say.
+    """
+    lists = [names if isinstance(names, Names) else Names(names) for names in (strings, contigs)]
+    words = (*_lent(record, facts), *lists[0]._held, *lists[1]._held)
+    room = 256 + 2 * len(_bytes(record))
+    while True:
+        line = (ctypes.c_uint8 * room)()
+        answer = _library.sikalumdo_vcf_line(*words, line, room)
+        if answer >> 32 != 13:
+            return bytes(memoryview(line)[:_accepted(answer)])
+        room *= 2
 
 
 def pairs(record, facts):
@@ -422,7 +454,7 @@ def _load():
     takes = {
         "read": record + told, "fetch": record + [word] * 2 + told, "field_of": text + told + [word] * 2 + told,
         "shown": text + [ctypes.c_uint8, size], "tally": record + told, "choose": record + words + buffer,
-        "first_pair": record,
+        "vcf_line": record + (text + words) * 2 + buffer, "first_pair": record,
         "pair": text + [size] + told, "fresh": words, "begin": turn + [word] * 4 + [integer] * 3 + [word],
         "id": turn + text, "allele": turn + text, "filter": turn + integers, "end": turn,
         "info_integers": turn + [integer] + integers, "info_floats": turn + [integer] + words,

@@ -27,6 +27,8 @@ def sample(name):
 
 
 RECORD = sample("two-people.hex")[1][0]
+# The names of its strings.
+STRINGS = [b"PASS", b"q10", b"DP", b"GT"]
 # The same with a bare 00 for FILTER, for the INFO value and for GT.
 BARE_RECORD = b"\x21" + RECORD[1:4] + b"\3" + RECORD[5:37] + b"\0" + b"\x11\2\0" + b"\x11\3\0"
 
@@ -102,7 +104,7 @@ class Reading(Case):
         refusal = Refusal(5, 24)
         self.assertEqual(str(refusal), "5 at byte 24: a fixed field or a count breaks its rule or, in building, would pass its most")
         self.assertEqual(pickle.loads(pickle.dumps(refusal)).place, 24)
-        self.assertEqual(sorted(sikalumdo.REASONS), list(range(1, 17)))
+        self.assertEqual(sorted(sikalumdo.REASONS), list(range(1, 19)))
 
 
 class Fetching(Case):
@@ -258,6 +260,48 @@ class Choosing(Case):
             kept = sikalumdo.choose(record, facts, stay)
             rest = sikalumdo.fetch(kept, facts._replace(people=60), FORMAT, 0).values()
             self.assertEqual(rest, [code for person in stay for code in every[2 * person:2 * person + 2]])
+
+
+class Printing(Case):
+    def line(self, record=RECORD, strings=STRINGS, contigs=(b"20",)):
+        return sikalumdo.vcf_line(record, FACTS, strings, contigs)
+
+    def test_sample(self):
+        wanted = b"20\t14370\t.\tG\tA\t29\tPASS\t.\tGT\t0|0\t1\n"
+        self.assertEqual(self.line(), wanted)
+        self.assertEqual(self.line(bytearray(RECORD + b"next"), sikalumdo.Names(STRINGS), iter([b"20", b"X"])), wanted)
+
+    def test_names(self):
+        """They stop at a zero byte, and an empty one is printed as nothing."""
+        filters = b"\x25" + RECORD[1:37] + b"\x31\2\0\1" + RECORD[39:]
+        line = self.line(filters, [b"PASS\0ED", b"", bytearray(b"DP"), b"GT"], [b"chr\x801"])
+        self.assertEqual(line.split(b"\t")[6], b"DP;PASS;")
+        self.assertEqual(line.split(b"\t")[0], b"chr\x801")
+
+    def test_quals(self):
+        for bits, printed in ((sikalumdo.FLOAT_MISSING, b"."), (0x80000000, b"0"), (0x4B7FFFFF, b"16777215")):
+            self.assertEqual(self.line(RECORD[:20] + bits.to_bytes(4, "little") + RECORD[24:]).split(b"\t")[5], printed)
+        for bits in (0x4B800000, 0x3F000000, 0xBF800000, 0x7F800000, 0x7FC00000):
+            self.assertRefused(17, 0, self.line, RECORD[:20] + bits.to_bytes(4, "little") + RECORD[24:], [])
+
+    def test_refusals(self):
+        self.assertRefused(5, 8, self.line, edited(8, 1), [])
+        self.assertRefused(18, 0, self.line, RECORD, STRINGS[:3])
+        self.assertRefused(18, 0, self.line, RECORD, STRINGS, [])
+        self.assertRaises(TypeError, self.line, RECORD, ["PASS"] * 4)
+
+    def test_the_room_grows(self):
+        name = b"c" * 10000
+        self.assertEqual(self.line(RECORD, STRINGS, [name]), name + self.line()[2:])
+
+    def test_columns(self):
+        facts, (record, *_) = sample("hundred-people.hex")
+        line = sikalumdo.vcf_line(record, facts, [b"s"] * facts.strings, [b"c"] * facts.contigs)
+        self.assertEqual(len(line.split(b"\t")), 9 + 100)
+        without = sikalumdo.vcf_line(record, facts._replace(gt=0xFFFFFFFF), [b"s"] * facts.strings, [b"c"] * facts.contigs)
+        self.assertEqual(without, b"\t".join(line.split(b"\t")[:8]) + b"\n")
+        nobody = self.line(BARE_RECORD)
+        self.assertTrue(nobody.endswith(b"\t.\t.\tGT\t.\t.\n"), nobody)
 
 
 class BareValues(Case):

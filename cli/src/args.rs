@@ -20,7 +20,7 @@ pub struct Asked {
     files: Vec<String>,
     /// Who leaves or stays.
     pub list: Option<List>,
-    /// Where the release goes.
+    /// Where the release, or the text, goes.
     pub output: Option<String>,
     /// Whether the release is packed.
     pub packed: bool,
@@ -107,7 +107,8 @@ impl Asked {
         if command.options.contains(&"--only") && self.list.is_none() {
             return usage("no list of names; expected --without NAMES or --only NAMES");
         }
-        if command.options.contains(&"-o") && self.output.is_none() {
+        // Text goes to standard output unless it is told otherwise; a release has to have a place.
+        if command.name == "cut" && self.output.is_none() {
             return usage("no release is named; expected -o RELEASE");
         }
         let from_list = match &self.list {

@@ -169,6 +169,20 @@ impl Header {
     }
 }
 
+/// The line of the columns, ended, with FORMAT where there are people.
+pub fn columns(people: &[&[u8]]) -> Vec<u8> {
+    let mut line = SITE_COLUMNS.join("\t").into_bytes();
+    if !people.is_empty() {
+        line.extend_from_slice(b"\tFORMAT");
+    }
+    for person in people {
+        line.push(b'\t');
+        line.extend_from_slice(person);
+    }
+    line.push(b'\n');
+    line
+}
+
 /// The bytes of a header with these lines and people.
 pub fn written(lines: &[&[u8]], people: &[&[u8]]) -> Vec<u8> {
     let mut text = Vec::new();
@@ -176,15 +190,8 @@ pub fn written(lines: &[&[u8]], people: &[&[u8]]) -> Vec<u8> {
         text.extend_from_slice(line);
         text.push(b'\n');
     }
-    text.extend_from_slice(SITE_COLUMNS.join("\t").as_bytes());
-    if !people.is_empty() {
-        text.extend_from_slice(b"\tFORMAT");
-    }
-    for person in people {
-        text.push(b'\t');
-        text.extend_from_slice(person);
-    }
-    text.extend_from_slice(b"\n\0");
+    text.extend(columns(people));
+    text.push(0);
     let mut bytes = MAGIC.to_vec();
     bytes.extend((text.len() as u32).to_le_bytes());
     bytes.extend(text);

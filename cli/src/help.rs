@@ -14,19 +14,20 @@ pub struct Command {
 
 /// What the program says of itself.
 pub const PROGRAM: &str = "\
-sikalumdo: checks, tallies, cuts and audits BCF files; what a record may be, a proved library says.
+sikalumdo: checks, tallies, cuts, audits and prints BCF files; what a record may be, a proved library says.
 
   sikalumdo check FILE                                                  every record read
   sikalumdo tally FILE [--summary]                                      genotypes counted
   sikalumdo cut FILE --without NAMES | --only NAMES -o RELEASE          a release of some people
   sikalumdo audit FILE RELEASE --without NAMES | --only NAMES           whether a release is what it should be
+  sikalumdo vcf FILE [-o TEXT]                                          sites and genotypes as VCF text
 
 A FILE is BCF 2.2, plain or packed (then bgzip or bcftools unpacks it); - is standard input. `sikalumdo COMMAND -h` says more.
 Exit status: 0; 1 where something was refused or differs; 2 for wrong usage, and for a file that cannot be read or written.
 ";
 
-/// The four commands.
-pub const COMMANDS: [Command; 4] = [
+/// The five commands.
+pub const COMMANDS: [Command; 5] = [
     Command {
         name: "check",
         files: 1,
@@ -103,6 +104,25 @@ claimed and what is not. The exit status is 0 where nothing differs, 1 otherwise
   --quiet           no progress
 
 Example:  sikalumdo audit cohort.bcf release.bcf --without withdrawn.txt
+",
+    },
+    Command {
+        name: "vcf",
+        files: 1,
+        options: &["-o", "--threads", "--quiet"],
+        help: "\
+sikalumdo vcf FILE [-o TEXT] [--threads N] [--quiet]
+
+Prints VCF text: of the header what the lines still need, the format, contigs, filters and GT, and a line a record, with a dot
+for INFO and no FORMAT but GT. A record without GT has dots for FORMAT and for each person; where the header has no GT or no
+people, there are eight columns throughout. A record that is refused has no line, is named on standard error, and makes the exit
+status 1; a QUAL that is neither missing nor a whole number from 0 to 16,777,215 is refused, too.
+
+  -o TEXT       where the text goes; standard output without it, and for -
+  --threads N   so many records at once
+  --quiet       says only which records are refused
+
+Example:  sikalumdo vcf cohort.bcf -o cohort.vcf
 ",
     },
 ];

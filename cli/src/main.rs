@@ -1,5 +1,5 @@
-//! `sikalumdo`: BCF files checked, tallied, cut to some people, and a release audited. What a record may be is for the
-//! proved library to say; this program knows the header's names and cuts the file into records.
+//! `sikalumdo`: BCF files checked, tallied, cut to some people, printed as VCF text, and a release audited. What a record
+//! may be is for the proved library to say; this program knows the header's names and cuts the file into records.
 
 mod args;
 mod audit;
@@ -28,6 +28,7 @@ mod stop;
 mod tally;
 mod totals;
 mod unpack;
+mod vcf;
 mod walk;
 mod work;
 
@@ -38,10 +39,13 @@ use help::{COMMANDS, PROGRAM};
 use output::Output;
 use stop::{Outcome, Stop};
 
+/// The commands, as messages name them.
+const EXPECTED: &str = "check, tally, cut, audit or vcf";
+
 /// Does what the words ask, and answers the exit status.
 fn run(words: &[String]) -> Outcome<u8> {
     let Some((name, rest)) = words.split_first() else {
-        return Err(Stop::usage("no command; expected check, tally, cut or audit; see sikalumdo -h"));
+        return Err(Stop::usage(format!("no command; expected {EXPECTED}; see sikalumdo -h")));
     };
     if name == "-h" || name == "--help" {
         Output::standard()?.put(PROGRAM.as_bytes())?;
@@ -52,7 +56,7 @@ fn run(words: &[String]) -> Outcome<u8> {
         return Ok(0);
     }
     let Some(command) = COMMANDS.iter().find(|command| command.name == name) else {
-        return Err(Stop::usage(format!("no command '{name}'; expected check, tally, cut or audit; see sikalumdo -h")));
+        return Err(Stop::usage(format!("no command '{name}'; expected {EXPECTED}; see sikalumdo -h")));
     };
     let asked = Asked::parse(command, rest)?;
     if asked.help {
@@ -63,6 +67,7 @@ fn run(words: &[String]) -> Outcome<u8> {
         "check" => check::check(&asked),
         "cut" => cut::cut(&asked),
         "audit" => audit::audit(&asked),
+        "vcf" => vcf::vcf(&asked),
         _ => tally::tally(&asked),
     }
 }

@@ -59,6 +59,25 @@ pub fn settings<'a>(line: &'a [u8], kinds: &[&str]) -> Option<Settings<'a>> {
     Some(found)
 }
 
+/// A line without its IDX, which only the records of a BCF file need, and the comma that parts it from its neighbour.
+pub fn without_idx(line: &[u8]) -> Vec<u8> {
+    let opened = line.iter().position(|&byte| byte == b'<').map_or(line.len(), |at| at + 1);
+    let mut list = line.get(opened..).unwrap_or_default();
+    while let Some((key, value, rest)) = setting(list) {
+        if key == b"IDX" {
+            let from = line.len() - list.len();
+            let to = from + key.len() + 1 + value.len();
+            let (before, after) = (line.get(..from).unwrap_or_default(), line.get(to..).unwrap_or_default());
+            return match before.strip_suffix(b",") {
+                Some(before) => [before, after].concat(),
+                None => [before, after.strip_prefix(b",").unwrap_or(after)].concat(),
+            };
+        }
+        list = rest;
+    }
+    line.to_vec()
+}
+
 /// A written offset as a number. The largest is left out, so that the dictionary's size is a number too.
 fn number(name: &str, line: &Line, idx: &[u8]) -> Outcome<u32> {
     let digits = std::str::from_utf8(idx).ok().and_then(|digits| digits.parse::<u32>().ok());

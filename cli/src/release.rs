@@ -1,4 +1,4 @@
-//! A release while it is written: beside its place, and put there by a rename once it is whole.
+//! A release, or text, while it is written: beside its place, and put there by a rename once it is whole.
 
 use std::fs::{self, File};
 use std::io::{self, Write};
@@ -63,7 +63,7 @@ impl Release {
     /// Begins a release of a source.
     pub fn begin(path: &str, source: &str, packed: bool, threads: usize) -> Outcome<Release> {
         if is_same(path, source) {
-            return Err(Stop::usage(format!("{path}: the release would replace its source; expected another file")));
+            return Err(Stop::usage(format!("{path}: it would replace its source; expected another file")));
         }
         let name = if path == "-" { "standard output" } else { path };
         let opened = target(path).map_err(|error| Stop::machine(name, "cannot be written", &error))?;

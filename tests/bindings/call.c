@@ -265,6 +265,32 @@ static void test_choosing(void)
     CHECK(buf[4] == 0 && memcmp(buf + GENOTYPE_COUNTS, "\0\0\0\0", 4) == 0);
 }
 
+/* The names PASS, q10, DP and GT, so many of them, and that of the one contig. */
+static uint64_t line_into(const uint8_t *s, size_t count, size_t names, uint8_t *buf, size_t room)
+{
+    static const uint32_t string_ends[4] = {4, 7, 9, 11}, contig_ends[1] = {2};
+    return sikalumdo_vcf_line(s, count, STRINGS, CONTIGS, PEOPLE, GT, (const uint8_t *)"PASSq10DPGT", 11, string_ends,
+                              names, (const uint8_t *)"20", 2, contig_ends, 1, buf, room);
+}
+
+static void test_lines(void)
+{
+    static const char line[] = "20\t14370\t.\tG\tA\t29\tPASS\t.\tGT\t0|0\t1\n";
+    const size_t length = sizeof line - 1;
+    uint8_t half[RECORD], buf[ROOM];
+    memcpy(half, record, RECORD);
+    half[21] = 0x80; /* QUAL 29.0625 */
+    memset(buf, 0xA5, sizeof buf);
+    CHECK(is(line_into(record, RECORD - 1, 4, buf, ROOM), 1, 0));
+    CHECK(is(line_into(half, RECORD, 3, buf, ROOM), 17, 0));
+    CHECK(is(line_into(record, RECORD, 3, buf, 0), 18, 0));
+    CHECK(is(line_into(record, RECORD, 4, buf, length - 1), 13, 0));
+    CHECK(untouched(buf, sizeof buf));
+    CHECK(is(line_into(record, RECORD, 4, buf, length), 0, (uint32_t)length));
+    CHECK(is(line_into(record, RECORD, 4, buf, ROOM), 0, (uint32_t)length));
+    CHECK(memcmp(buf, line, length) == 0 && untouched(buf + length, ROOM - length));
+}
+
 static uint32_t state[SIKALUMDO_STATE_NUMBERS];
 static uint8_t buf[ROOM];
 
@@ -550,7 +576,7 @@ int main(int argc, char **argv)
 {
     static void (*const all[])(void) = {test_reading,  test_fetching,   test_showing,
                                         test_fetching_once_read, test_other_sites,
-                                        test_walking,  test_tallying,   test_choosing,
+                                        test_walking,  test_tallying,   test_choosing,   test_lines,
                                         test_building, test_short_outs, test_building_other_types,
                                         test_refused_turns, test_refused_beginnings, test_refusals_of_reading,
                                         test_bare_values, test_bare_genotypes, test_type_0_elsewhere};

@@ -7,7 +7,7 @@
 
 #![allow(unsafe_code)]
 
-use crate::{Facts, Kind, Refusal};
+use crate::{Facts, Kind, Names, Refusal};
 
 /// The numbers of a builder's state.
 pub const STATE: usize = 266;
@@ -66,6 +66,24 @@ extern "C" {
         gt: u32,
         choice: *const u32,
         choice_len: usize,
+        buf: *mut u8,
+        buf_len: usize,
+    ) -> u64;
+    fn sikalumdo_vcf_line(
+        s: *const u8,
+        s_len: usize,
+        strings: u32,
+        contigs: u32,
+        people: u32,
+        gt: u32,
+        string_text: *const u8,
+        string_text_len: usize,
+        string_ends: *const u32,
+        string_ends_len: usize,
+        contig_text: *const u8,
+        contig_text_len: usize,
+        contig_ends: *const u32,
+        contig_ends_len: usize,
         buf: *mut u8,
         buf_len: usize,
     ) -> u64;
@@ -196,6 +214,36 @@ pub fn choose(s: &[u8], facts: &Facts, choice: &[u32], buf: &mut [u8]) -> Result
             gt,
             choice.as_ptr(),
             choice.len(),
+            buf.as_mut_ptr(),
+            buf.len(),
+        )
+    })
+}
+
+pub fn vcf_line(
+    s: &[u8],
+    facts: &Facts,
+    strings: Names<'_>,
+    contigs: Names<'_>,
+    buf: &mut [u8],
+) -> Result<u32, Refusal> {
+    // SAFETY: lends the record and both lists of names to be read and the buffer, apart from all, to be written.
+    opened(unsafe {
+        sikalumdo_vcf_line(
+            s.as_ptr(),
+            s.len(),
+            facts.strings,
+            facts.contigs,
+            facts.people,
+            facts.gt,
+            strings.text.as_ptr(),
+            strings.text.len(),
+            strings.ends.as_ptr(),
+            strings.ends.len(),
+            contigs.text.as_ptr(),
+            contigs.text.len(),
+            contigs.ends.as_ptr(),
+            contigs.ends.len(),
             buf.as_mut_ptr(),
             buf.len(),
         )

@@ -1,6 +1,6 @@
 //! One uncompressed BCF2 record at a time: reading it, fetching a value, walking its INFO pairs, tallying its
-//! genotypes, choosing people, and building a record. Who wants several values of a record reads it once, as a
-//! [`Record`], and fetches from that.
+//! genotypes, choosing people, writing its VCF line, and building a record. Who wants several values of a record reads
+//! it once, as a [`Record`], and fetches from that.
 //!
 //! The work is done by a proved library; this crate only lends it slices and opens its answers, and holds no rule of
 //! the format. The header stays outside: its facts come in as the four numbers of [`Facts`]. A call that isn't
@@ -21,6 +21,7 @@ mod choose;
 mod facts;
 mod fetch;
 mod ffi;
+mod line;
 mod read;
 mod record;
 mod refusal;
@@ -31,6 +32,7 @@ pub use build::Builder;
 pub use choose::choose;
 pub use facts::Facts;
 pub use fetch::{fetch, field_of, shown, Field, Kind};
+pub use line::{vcf_line, NameList, Names};
 pub use read::{read, vcf_pos, Site};
 pub use record::Record;
 pub use refusal::Refusal;

@@ -3,11 +3,11 @@
 use std::error::Error;
 use std::fmt;
 
-/// Why a call was refused: one of the sixteen numbers that a refusal carries, and a byte offset from the record's
+/// Why a call was refused: one of the eighteen numbers that a refusal carries, and a byte offset from the record's
 /// start, 0 where the reason is no byte of the record.
 #[derive(Debug, Clone, Copy, PartialEq, Eq, Hash)]
 pub struct Refusal {
-    /// The refusal's number, from 1 to 16.
+    /// The refusal's number, from 1 to 18.
     pub number: u32,
     /// The place, a byte offset from the record's start.
     pub place: u32,
@@ -38,6 +38,8 @@ impl Refusal {
             14 => "a choice not ascending or out of range",
             15 => "a tally of more than 64 alleles",
             16 => "no field of that number",
+            17 => "QUAL is not printable: it is not missing and no whole number from 0 to 16,777,215",
+            18 => "a list of names shorter than its dictionary",
             _ => "a number that no refusal carries",
         }
     }

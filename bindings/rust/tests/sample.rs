@@ -1,8 +1,7 @@
 //! The repository's sample record of two people, through every function of the crate; and the same with bare 00s.
 
-use sikalumdo::{
-    choose, fetch, field_of, pair_at, pairs, read, shown, tally, Builder, Facts, Kind, Record, Refusal, Site,
-};
+use sikalumdo::{choose, fetch, field_of, pair_at, pairs, read, shown, tally, vcf_line};
+use sikalumdo::{Builder, Facts, Kind, NameList, Names, Record, Refusal, Site};
 
 const PATTERN: u8 = 0xA5;
 /// The place of the FORMAT and people counts, the last field that end fills in.
@@ -164,6 +163,61 @@ fn people_are_chosen() {
     wanted.drain(46..48);
     assert_eq!((&buf[..48], &buf[48..]), (&wanted[..], &[PATTERN; 12][..]));
     assert_eq!(choose(&record, &facts, &[], &mut buf), Ok(43));
+}
+
+const STRINGS: Names = Names { text: b"PASSq10DPGT", ends: &[4, 7, 9, 11] };
+const CONTIGS: Names = Names { text: b"20", ends: &[2] };
+
+#[test]
+fn a_line_is_written() {
+    let (facts, record) = sample();
+    let (wanted, mut buf) = (b"20\t14370\t.\tG\tA\t29\tPASS\t.\tGT\t0|0\t1\n", [PATTERN; 60]);
+    assert_eq!(vcf_line(&record, &facts, STRINGS, CONTIGS, &mut buf), Ok(wanted.len()));
+    assert_eq!((&buf[..34], &buf[34..]), (&wanted[..], &[PATTERN; 26][..]));
+    let bare = "20\t14370\t.\tG\tA\t29\t.\t.\tGT\t.\t.\n";
+    let length = vcf_line(&self::bare(), &facts, STRINGS, CONTIGS, &mut buf).expect("a line");
+    assert_eq!(std::str::from_utf8(&buf[..length]), Ok(bare));
+    let no_gt = Facts { gt: u32::MAX, ..facts };
+    let length = vcf_line(&record, &no_gt, STRINGS, CONTIGS, &mut buf).expect("a line");
+    assert_eq!(&buf[..length], b"20\t14370\t.\tG\tA\t29\tPASS\t.\n");
+}
+
+#[test]
+fn names_are_lent() {
+    let (facts, mut record) = sample();
+    // FILTER of the offset 1.
+    record[38] = 1;
+    let filter = |strings: Names<'_>| {
+        let mut buf = [PATTERN; 80];
+        let length = vcf_line(&record, &facts, strings, CONTIGS, &mut buf).expect("a line");
+        buf[..length].split(|&byte| byte == b'\t').nth(6).expect("FILTER").to_vec()
+    };
+    assert_eq!(filter(STRINGS), b"q10");
+    assert_eq!(filter(Names { text: b"abcdef", ends: &[4, 9, 0, 0, 0] }), b"ef");
+    assert_eq!(filter(Names { text: b"abcdef", ends: &[4, 2, 6, 6] }), b"");
+    assert_eq!(filter(Names { text: b"a\0\0b", ends: &[2, 4, 4, 4] }), b"");
+    let list: NameList = [&b"PASS"[..], b"s50\0", b"", b"GT"].into_iter().collect();
+    assert_eq!(filter(list.lend()), b"s50");
+    assert_eq!((list.lend().text, list.lend().ends), (&b"PASSs50\0GT"[..], &[4, 8, 8, 10][..]));
+}
+
+#[test]
+fn a_refused_line_writes_nothing() {
+    let (facts, record) = sample();
+    let (few, none) = (Names { ends: &[4, 7, 9], ..STRINGS }, Names { text: b"", ends: &[] });
+    let refuse = |s: &[u8], strings: Names<'_>, contigs: Names<'_>, room: usize| {
+        let mut buf = vec![PATTERN; room];
+        let refusal = vcf_line(s, &facts, strings, contigs, &mut buf).expect_err("a refusal");
+        assert!(buf.iter().all(|&byte| byte == PATTERN));
+        (refusal.number, refusal.place)
+    };
+    let mut half = record.clone();
+    half[20..24].copy_from_slice(&0.5f32.to_le_bytes());
+    assert_eq!(refuse(&record[..49], few, none, 0), (1, 0));
+    assert_eq!(refuse(&half, few, none, 0), (17, 0));
+    assert_eq!(refuse(&record, few, CONTIGS, 0), (18, 0));
+    assert_eq!(refuse(&record, STRINGS, none, 60), (18, 0));
+    (0..34).for_each(|room| assert_eq!(refuse(&record, STRINGS, CONTIGS, room), (13, 0)));
 }
 
 /// The sample's record with a bare 00 for FILTER, for the INFO value and for GT.

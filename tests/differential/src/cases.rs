@@ -7,6 +7,7 @@ use crate::choosing::compare_choices;
 use crate::damage::{damaged, noise, Input};
 use crate::elements::{width, CODES};
 use crate::filters::compare_filters;
+use crate::lines::compare_lines;
 use crate::random::Random;
 use crate::reading::{
     compare_fetch, compare_fetches, compare_pairs, compare_record, compare_tally, compare_walk, KINDS,
@@ -46,6 +47,7 @@ fn compare_all(report: &mut Report, input: &Input, random: &mut Random) -> Optio
     compare_walk(report, input);
     compare_pairs(report, input, random);
     compare_choices(report, input, random, site.is_ok());
+    compare_lines(report, input, random, site.is_ok());
     let site = site.ok()?;
     compare_turns(report, &rebuild::sequence(input, &site, random.next()))
 }
@@ -123,6 +125,7 @@ fn compare_some(report: &mut Report, input: &Input, random: &mut Random) {
         compare_fetch(report, input, random, 3, 0);
         compare_pairs(report, input, random);
         compare_choices(report, input, random, false);
+        compare_lines(report, input, random, false);
     }
 }
 
@@ -151,6 +154,7 @@ fn large_record(report: &mut Report, random: &mut Random) {
         site.iter().for_each(|site| compare_own(report, &input, site, kind, random.below(65_536) as u32));
     }
     compare_choices(report, &input, random, false);
+    compare_lines(report, &input, random, false);
 }
 
 /// GT of codes that only the most alleles have, where the facts have a GT.

@@ -8,6 +8,7 @@ mod damage;
 mod elements;
 mod filters;
 mod input;
+mod lines;
 mod random;
 mod reading;
 mod rebuild;

@@ -13,6 +13,9 @@ const PRINTED: u64 = 20;
 /// Characters of one difference that are printed; a record of 30,000 bytes has room.
 const MOST: usize = 70_000;
 
+/// The greatest number that a refusal carries.
+const NUMBERS: usize = 18;
+
 /// A text that stops growing, so that an input of many megabytes isn't written out.
 struct Short(String);
 
@@ -30,7 +33,7 @@ impl Write for Short {
 #[derive(Clone, Copy, Default)]
 struct Answers {
     accepted: u64,
-    refused: [u64; 17],
+    refused: [u64; NUMBERS + 1],
 }
 
 pub struct Report {
@@ -82,7 +85,7 @@ impl Report {
         let answers = self.functions.entry(function).or_default();
         match ours {
             Ok(_) => answers.accepted += 1,
-            Err((number, _)) => answers.refused[(*number as usize).min(16)] += 1,
+            Err((number, _)) => answers.refused[(*number as usize).min(NUMBERS)] += 1,
         }
         if ours != plain {
             self.differ(input, format_args!("{function} {asked}: ours {ours:X?}, plain {plain:X?}"));
@@ -120,7 +123,7 @@ impl Display for Report {
     fn fmt(&self, form: &mut fmt::Formatter<'_>) -> fmt::Result {
         writeln!(form, "{} inputs, {} records and {} builds", self.inputs(), self.records, self.builds)?;
         writeln!(form, "{} accepted records with a bare 00", self.with_bare)?;
-        let mut reached = [false; 17];
+        let mut reached = [false; NUMBERS + 1];
         for (function, answers) in &self.functions {
             let refused: u64 = answers.refused.iter().sum();
             let (calls, accepted) = (answers.accepted + refused, answers.accepted);
@@ -131,7 +134,7 @@ impl Display for Report {
             }
             writeln!(form, "{}", if refused == 0 { " none" } else { "" })?;
         }
-        let unreached: Vec<usize> = (1..=16).filter(|&number| !reached[number]).collect();
+        let unreached: Vec<usize> = (1..=NUMBERS).filter(|&number| !reached[number]).collect();
         writeln!(form, "refusals never reached: {unreached:?}")?;
         writeln!(form, "{} differences", self.differences)
     }

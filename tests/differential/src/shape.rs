@@ -79,12 +79,19 @@ pub fn fixed_fields(random: &mut Random, facts: &Facts) -> (i32, i32, i32, u32) 
         _ => random.within(0, 300_000_000),
     };
     let rlen = random.pick(&[0, 1, 1, 77, i32::MAX]);
-    let qual = match random.below(4) {
+    (chrom as i32, pos as i32, rlen, qual(random))
+}
+
+/// QUAL that no rule forbids: whole numbers often, since a line prints no others.
+fn qual(random: &mut Random) -> u32 {
+    let most = random.pick(&[60, 3_000, 1 << 24, 1 << 25]);
+    match random.below(6) {
         0 => FLOAT_MISSING,
-        1 => random.pick(&[0, 0x8000_0000, 0x7F80_0000, 0x7F80_0008, 0xFF80_0002]),
-        _ => (random.next() as u32) & 0x7F7F_FFFF,
-    };
-    (chrom as i32, pos as i32, rlen, qual)
+        1 => random.pick(&[0, 0x8000_0000, 0x7F80_0000, 0x7F80_0008, 0xFF80_0002, 0x4B7F_FFFF, 0x4B80_0000]),
+        2 => (random.next() as u32) & 0x7F7F_FFFF,
+        3 => (random.within(0, most) as f32 / 2.0).to_bits(),
+        _ => (random.within(0, most) as f32).to_bits(),
+    }
 }
 
 /// A value whose length stands as short as it may, or in a wider true length.

@@ -1,4 +1,5 @@
-//! Refusals: the sixteen numbers of document 01's table, each given with a place in the record.
+//! Refusals: the sixteen numbers of document 01's table and those that document 02 has added, each given with a place
+//! in the record.
 
 /// Why a call was refused, and at which byte offset from the record's start.
 #[derive(Debug, Clone, Copy, PartialEq, Eq)]
@@ -66,3 +67,7 @@ pub(crate) const BAD_CHOICE: u32 = 14;
 pub(crate) const TOO_MANY_ALLELES: u32 = 15;
 /// No field of that number.
 pub(crate) const NO_FIELD: u32 = 16;
+/// QUAL isn't missing and no whole number from 0 to 16,777,215.
+pub(crate) const QUAL_NOT_PRINTED: u32 = 17;
+/// A name list shorter than its dictionary.
+pub(crate) const FEW_NAMES: u32 = 18;

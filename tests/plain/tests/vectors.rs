@@ -8,7 +8,8 @@ use std::io::Write;
 use std::path::{Path, PathBuf};
 use std::process::{Command, Stdio};
 
-use plain::{choose, fetch, info_start, pair_at, read, tally, Builder, Facts, Kind, Refusal, Turn};
+use plain::{choose, fetch, info_start, pair_at, read, tally, vcf_line};
+use plain::{Builder, Facts, Kind, Names, Refusal, Turn};
 use support::Json;
 
 fn beside(name: &str) -> PathBuf {
@@ -18,7 +19,7 @@ fn beside(name: &str) -> PathBuf {
 #[test]
 fn functions() {
     let mut agree: BTreeMap<&str, (u32, u32)> = BTreeMap::new();
-    for op in ["read", "fetch", "walk", "tally", "choose", "build"] {
+    for op in ["read", "fetch", "walk", "tally", "choose", "build", "vcf_line"] {
         let lines = fs::read_to_string(beside(&format!("vectors/{op}.jsonl"))).expect("the vectors");
         let (agreed, all) = agree.entry(op).or_default();
         for (number, line) in lines.lines().enumerate() {
@@ -70,6 +71,7 @@ fn run(op: &str, case: &Json) -> Json {
         "tally" => run_tally(&record, &facts),
         "choose" => run_choose(case, &record, &facts),
         "build" => run_build(case, facts),
+        "vcf_line" => run_vcf_line(case, &record, &facts),
         _ => panic!("no such function: {op}"),
     }
 }
@@ -140,6 +142,15 @@ fn run_choose(case: &Json, record: &[u8], facts: &Facts) -> Json {
     pair("answer", told, "buffer", Json::Text(hex(&buffer)))
 }
 
+fn run_vcf_line(case: &Json, record: &[u8], facts: &Facts) -> Json {
+    let lists = ["strings", "contigs"].map(|list| names(case.get(list).unwrap()));
+    let [strings, contigs] = lists.each_ref().map(|(text, ends)| Names { text, ends });
+    let mut buffer = lent(case);
+    let answered = vcf_line(record, facts, strings, contigs, &mut buffer);
+    let told = answer(answered, |length| (length as i64).into_json());
+    pair("answer", told, "buffer", Json::Text(hex(&buffer)))
+}
+
 fn run_build(case: &Json, facts: Facts) -> Json {
     let mut buffer = lent(case);
     let mut builder = Builder::fresh();
@@ -207,6 +218,12 @@ fn facts(case: &Json) -> Facts {
     let mut given = numbers(case.get("facts").unwrap()).map(|number| number as u32);
     let mut next = || given.next().expect("four facts");
     Facts { strings: next(), contigs: next(), people: next(), gt: next() }
+}
+
+/// The text and the ends of a list of names.
+fn names(given: &Json) -> (Vec<u8>, Vec<u32>) {
+    let ends = numbers(given.get("ends").unwrap()).map(|end| end as u32);
+    (bytes(given.get("text").unwrap()), ends.collect())
 }
 
 /// A lent buffer is given by its length and filled with 5A.
