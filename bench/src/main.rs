@@ -42,7 +42,7 @@ fn main() {
     }
 }
 
-fn tasks() -> [Task; 10] {
+fn tasks() -> [Task; 11] {
     let full = || Record::new(10_000, 0, true);
     [
         reading("read, 10,000 people, GT DP GQ", full()),
@@ -53,6 +53,7 @@ fn tasks() -> [Task; 10] {
         choosing("choose, 40 gone of 10,000, GT DP GQ", full()),
         building("build, 10,000 people, GT DP GQ", full()),
         printing("VCF line, 10,000 people, GT", Record::new(10_000, 0, false)),
+        printing("VCF line, 10,000 people, GT, half haploid", Record::new(10_000, 2, false)),
         tallying("read + tally, 100 people, GT DP GQ", Record::new(100, 0, true)),
         tallying("read + tally, 100 people, GT", Record::new(100, 0, false)),
     ]

@@ -11,7 +11,7 @@ use Rattle.types.specs.Elements.{marked, kind, widened, shown, narrowest}
 use Rattle.values.specs.Values.{integer, trueLength, keyed, mayStand, described, present}
 use Rattle.vectors.specs.Vectors.{numbers, shownNumbers, vector, vectors, judged, elementsOf}
 use Rattle.vectors.specs.Sound.{highest, codeMost, sound}
-use Rattle.positions.specs.Positions.{posOf, posBits}
+use Rattle.positions.specs.Positions.{posOf, posBits, oneBased}
 use Rattle.fixed.specs.Layout.{field, posWrong, peopleWrong, qualWrong, mostBytes}
 use Rattle.fixed.specs.Fixed.{blocks, wrongAt, siteAt, fixed}
 use Rattle.site.specs.Steps.{times}
@@ -40,6 +40,13 @@ use Rattle.build_laws.specs.Records.{All, Fit, KeepsInfo, KeepsFields, Keeps}
 use Rattle.shown.specs.Records.{joined, siteBytes, genotypeBytes, filledFront, recordBytes}
 use Rattle.build_laws.proofs.Builds.{keeps-tight}
 use Rattle.laws.specs.Sample.{Sample, facts, sample, showing, sampleShown}
+use Rattle.pieces.specs.Pieces.{followed, joinedBy, listed, orDot}
+use Rattle.names.specs.Names.{beforeZero, stretchOf, nameOf}
+use Rattle.elements.specs.Elements.{shownBy, codeCall}
+use Rattle.vcf_qual.specs.Qual.{wholeOf, printable, qualText}
+use Rattle.vcf_site.specs.Columns.{posText}
+use Rattle.vcf_line.specs.Line.{refText, altText, filterText, callColumns, siteColumns, vcfLine, printed}
+use Rattle.vcf_calls.specs.Words.{laterWords, personWord, callOfNumber, slotCalls, genotypeWord, vectorsOf, callWords}
 
 -- what it shows keeps the rules, and is written as its bytes
 sample-bytes : recordBytes (facts .people) sampleShown ≡ sample
@@ -107,5 +114,5 @@ sample-keeps =
     short = omega arith
 
 pub sample-read : Sample
-unfolding sample among le number outside rowOf widthOf marked kind widened shown integer trueLength keyed mayStand described present numbers shownNumbers vector vectors judged highest codeMost sound field posWrong peopleWrong qualWrong blocks wrongAt posOf posBits siteAt fixed times alleleBytes allele filters filtered filter info site roleOf gtNow formatField soMany formats siteOf genotypesOf reading elementsOf flatten elementsAt alone paired fieldsOf siteKinds siteFields genotypeFields account ofKind shownOf slots alleleOf alleles people called without howMany counters peopleTally peopleOf counted callsOf tallied inDecimal decimal spaced callNumbers acceptedLine recordLine
-sample-read = record { read = refl; shows = refl; built = sample-bytes; tight = rw sample-bytes at (keeps-tight facts sampleShown sample-keeps); tally = refl; line = refl }
+unfolding sample among le number outside rowOf widthOf marked kind widened shown integer trueLength keyed mayStand described present numbers shownNumbers vector vectors judged highest codeMost sound field posWrong peopleWrong qualWrong blocks wrongAt posOf posBits siteAt fixed times alleleBytes allele filters filtered filter info site roleOf gtNow formatField soMany formats siteOf genotypesOf reading elementsOf flatten elementsAt alone paired fieldsOf siteKinds siteFields genotypeFields account ofKind shownOf slots alleleOf alleles people called without howMany counters peopleTally peopleOf counted callsOf tallied inDecimal decimal spaced callNumbers acceptedLine recordLine oneBased followed joinedBy listed orDot beforeZero stretchOf nameOf shownBy codeCall wholeOf printable qualText posText refText altText filterText laterWords personWord callOfNumber slotCalls genotypeWord vectorsOf callWords callColumns siteColumns vcfLine printed
+sample-read = record { read = refl; shows = refl; built = sample-bytes; tight = rw sample-bytes at (keeps-tight facts sampleShown sample-keeps); tally = refl; line = refl; vcf = refl }

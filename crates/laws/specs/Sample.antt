@@ -1,5 +1,5 @@
 -- 01's sample record, the input of the line program's example: how it is read, what it
--- shows, its tally and the line that is printed of it. Rests on the definitions of record, tally and frames.
+-- shows, its tally, the line that the program prints of it, and its VCF line. Rests on the definitions of record, tally, frames and vcf_line.
 use mathlib.Core.Path.{_≡_}
 use mathlib.Core.List.{List, [], _∷_, _++_}
 use Prim.Native.Nat.{ℕ}
@@ -17,6 +17,7 @@ use Rattle.tally.specs.declared.Counting.the-variants.{Counted}
 use Rattle.frames.specs.Frames.{recordLine}
 use Rattle.shown.specs.Records.{recordBytes}
 use Rattle.build_laws.specs.Builds.{Tight}
+use Rattle.vcf_line.specs.Line.{Names, namesIn, line as text, printed}
 
 -- four strings, one contig, two people, GT at offset 3
 abbrev pub facts : Facts
@@ -75,6 +76,13 @@ sampleShown =
     showing (0 ∷ []) (record { key = 2; value = record { kind = integers; elements = 14 ∷ [] } } ∷ [])
     (record { key = 3; len = 2; value = record { kind = integers; elements = 2 ∷ 3 ∷ 4 ∷ 0x80000001 ∷ [] } } ∷ [])
 
+-- names: the filter at offset 0 is PASS, the contig is 20
+abbrev pub sampleStrings : Names
+sampleStrings = namesIn (0x50 ∷ 0x41 ∷ 0x53 ∷ 0x53 ∷ 0x71 ∷ 0x44 ∷ 0x50 ∷ 0x47 ∷ 0x54 ∷ []) (4 ∷ 5 ∷ 7 ∷ 9 ∷ [])
+
+abbrev pub sampleContigs : Names
+sampleContigs = namesIn (0x32 ∷ 0x30 ∷ []) (2 ∷ [])
+
 pub record Sample : Type 0 where
   -- accepted: 50 bytes, two alleles, one INFO pair, one FORMAT field, two people; GT is of type 1, two slots a person, from byte 46 on
   pub read : reading facts sample ≡ Accepted sampleSite (gtAt 1 2 46)
@@ -87,3 +95,8 @@ pub record Sample : Type 0 where
   -- and so the line program says `ok 50 2 1 1 2 0 0 2 1`
   pub line : recordLine facts sample
       ≡ 0x6F ∷ 0x6B ∷ 0x20 ∷ 0x35 ∷ 0x30 ∷ 0x20 ∷ 0x32 ∷ 0x20 ∷ 0x31 ∷ 0x20 ∷ 0x31 ∷ 0x20 ∷ 0x32 ∷ 0x20 ∷ 0x30 ∷ 0x20 ∷ 0x30 ∷ 0x20 ∷ 0x32 ∷ 0x20 ∷ 0x31 ∷ 0x0A ∷ []
+  -- as VCF text it is 20, 14370, a dot, G, A, 29, PASS, a dot, GT, `0|0` and `1`: the phase is that of the later slot, and the padding is no slot
+  pub vcf : printed facts sampleStrings sampleContigs sample
+      ≡ text
+      (0x32 ∷ 0x30 ∷ 0x09 ∷ 0x31 ∷ 0x34 ∷ 0x33 ∷ 0x37 ∷ 0x30 ∷ 0x09 ∷ 0x2E ∷ 0x09 ∷ 0x47 ∷ 0x09 ∷ 0x41 ∷ 0x09 ∷ 0x32 ∷ 0x39 ∷ 0x09 ∷ 0x50 ∷ 0x41 ∷ 0x53 ∷ 0x53 ∷ 0x09 ∷ 0x2E ∷ 0x09 ∷ 0x47 ∷
+      0x54 ∷ 0x09 ∷ 0x30 ∷ 0x7C ∷ 0x30 ∷ 0x09 ∷ 0x31 ∷ 0x0A ∷ [])

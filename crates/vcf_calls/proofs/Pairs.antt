@@ -1,4 +1,4 @@
--- People with two slots of one character each: their column is four bytes. Rests on proofs/Words.
+-- People with two slots of one character each, whose column is four bytes, and with one such slot before an end of vector. Rests on proofs/Words.
 use mathlib.Core.Path.{_≡_, refl, _∙_}
 use mathlib.Core.Bool.{Bool, true, false}
 use mathlib.Core.List.{List, [], _∷_, append-nil}
@@ -13,8 +13,8 @@ use Rattle.types.specs.Elements.{widened, shown}
 use Rattle.decimal.proofs.Decimal.{below-ten}
 use Rattle.elements.proofs.Elements.{byte-number}
 use Rattle.vcf_calls.specs.Words.{slotWord, separator, callOfNumber}
-use Rattle.vcf_calls.specs.Engine.{columnOf, pairText}
-use Rattle.vcf_calls.proofs.Words.{missing-word, allele-word, later-none, later-on, person-on}
+use Rattle.vcf_calls.specs.Engine.{columnOf, singleText, pairText}
+use Rattle.vcf_calls.proofs.Words.{endShown, missing-word, allele-word, later-none, later-end, later-on, person-on}
 
 -- a code below 22 is a dot or one digit
 pub one-digit : (x : ℕ) → 2 ≤ x → x < 22 → slotWord (callOfNumber x) ≡ (0x30 + (x / 2 - 1)) ∷ []
@@ -42,6 +42,22 @@ pair-length a b h k =
 narrow : (x : ℕ) → x < 22 → x ≡ shown 1 x
 unfolding shown widened
 narrow x h = rw (lt-ltb x 0x80 (omega arith))
+
+end-narrow : shown 1 0x81 ≡ endShown
+unfolding shown widened
+end-narrow = refl
+
+pub single-column : (part : List ℕ) (at a : ℕ) → a ≡ getD part at 0 → 0x81 ≡ getD part (at + 1) 0 → a < 22 → columnOf 1 1 2 (drop at part) ≡ singleText a
+unfolding columnOf singleText
+single-column part at a p q h =
+    let l = drop at part in
+    let e : a ≡ shown 1 (number 1 l) = narrow a h ∙ rw (byte-number part at, p) in
+    let d : shown 1 (number 1 (drop 1 l)) ≡ endShown = rw (drop-drop 1 at part, byte-number part (at + 1), ← q) end-narrow in
+    rw (
+      person-on 1 1 2 l a (omega arith) e (omega arith) (λ z. omega arith),
+      later-end 1 1 1 (drop 1 l) (omega arith) d,
+      append-nil (slotWord (callOfNumber a)),
+    )
 
 pub pair-column : (part : List ℕ) (at a b : ℕ) → a ≡ getD part at 0 → b ≡ getD part (at + 1) 0 → a < 22 → b < 22 → columnOf 1 1 2 (drop at part) ≡ pairText a b
 unfolding columnOf pairText

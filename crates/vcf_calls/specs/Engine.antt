@@ -15,6 +15,9 @@ unfoldable pub columnsOf : ℕ → ℕ → ℕ → ℕ → List ℕ → List ℕ
 columnsOf t w len zero l = []
 columnsOf t w len (suc n) l = columnOf t w len l ++ columnsOf t w len n (drop (len * w) l)
 
--- a tab, and the word of two slots of these codes
+-- a tab, and the word of one slot of this code; of two slots of these codes
+unfoldable pub singleText : ℕ → List ℕ
+singleText a = 0x09 ∷ slotWord (callOfNumber a)
+
 unfoldable pub pairText : ℕ → ℕ → List ℕ
 pairText a b = 0x09 ∷ (slotWord (callOfNumber a) ++ (separator (callOfNumber b) ∷ slotWord (callOfNumber b)))

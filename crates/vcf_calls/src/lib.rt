@@ -9,7 +9,7 @@ ghost use Rattle.types.specs.Rows.{widthOf};
 ghost use Rattle.vectors.specs.Vectors.{shownNumbers};
 ghost use Rattle.pieces.specs.Pieces.{after, followed, dot};
 ghost use Rattle.vcf_calls.specs.Words.{slotWord, separator, laterWords, callOfNumber, slotCalls, genotypeWord, partWords};
-ghost use Rattle.vcf_calls.specs.Engine.{pairText, columnOf, columnsOf};
+ghost use Rattle.vcf_calls.specs.Engine.{singleText, pairText, columnOf, columnsOf};
 
 // The mark of an end of vector, as it is shown.
 const END: u32 = 0x80000001;
@@ -161,7 +161,18 @@ fn put_pair(buf: &mut [u8], to: usize, first: u8, second: u8) -> usize
     to + 4
 }
 
-// A tab and a person's two elements of one byte at a place.
+// A tab and a person's only slot, of one character.
+fn put_single(buf: &mut [u8], to: usize, code: u8) -> usize
+    requires { ⌜ code < 22 ⌝ }
+    ensures next { λ r. ⌜ r ≡ after to (length (singleText code)) ⌝ }
+    ensures written { λ _. ⌜ now (buf .exit) ≡ sets (now (buf .entry)) to (singleText code) ⌝ }
+{
+    let a = figure(code);
+    let next = pieces::put_byte(buf, to, b'\t');
+    pieces::put_byte(buf, next, a)
+}
+
+// A tab and a person's two elements of one byte at a place. Most have two slots of one character each, or one and an end of vector.
 fn put_couple(buf: &mut [u8], to: usize, part: &[u8], at: usize) -> usize
     requires { ⌜ at + 1 < length (now part) ⌝ }
     ensures next { λ r. ⌜ r ≡ after to (length (columnOf 1 1 2 (drop at (now (part .entry))))) ⌝ }
@@ -171,6 +182,9 @@ fn put_couple(buf: &mut [u8], to: usize, part: &[u8], at: usize) -> usize
     let second = part[at + 1];
     if 22 <= first {
         return put_column(buf, to, part, at, 1, 1, 2);
+    }
+    if second == 0x81 {
+        return put_single(buf, to, first);
     }
     if 22 <= second {
         return put_column(buf, to, part, at, 1, 1, 2);
