@@ -18,7 +18,7 @@ use positions::BcfPosition;
 use values::Refusal;
 
 // The last turn that was taken.
-#[derive(Drop)]
+#[derive(Clone, Copy)]
 pub enum Stage {
     Fresh,
     Begun,
@@ -31,7 +31,7 @@ pub enum Stage {
 }
 
 // A build as far as it is: the header's facts, the bytes written, where the genotype block begins, the counts, and the FORMAT keys.
-#[derive(Drop)]
+#[derive(Clone, Copy)]
 pub struct Builder {
     pub facts: Facts,
     pub at: u32,
@@ -44,14 +44,14 @@ pub struct Builder {
 }
 
 // Whether a turn was taken; or its refusal.
-#[derive(Drop)]
+#[derive(Clone, Copy)]
 pub enum Answer {
     Taken,
     Refused(Refusal),
 }
 
 // A turn's answer, and the state after it: that before it where it was refused.
-#[derive(Drop)]
+#[derive(Clone, Copy)]
 pub struct Turned {
     pub state: Builder,
     pub answer: Answer,

@@ -12,7 +12,7 @@ ghost use Rattle.build_append.specs.Append.{first_of, room_number, head_bytes, v
 
 // What a value is written as: alone (ID, an allele, FILTER), with an INFO field's key, or with a FORMAT field's key and the length of each
 // person's vector.
-#[derive(Drop)]
+#[derive(Clone, Copy)]
 pub enum Field {
     Alone,
     Info(u32),
@@ -20,7 +20,7 @@ pub enum Field {
 }
 
 // What became of bytes to be appended: the number of what is wrong, 0 where they were written, and how many they are.
-#[derive(Drop)]
+#[derive(Clone, Copy)]
 pub struct Written {
     pub number: u32,
     pub size: usize,

@@ -13,14 +13,14 @@ use types::Element;
 
 // People without a genotype, and how often each allele is called: of `counts`, the first is the missing alleles,
 // and the one at 1 + i the calls of allele i.
-#[derive(Drop)]
+#[derive(Clone, Copy)]
 pub struct Calls {
     pub without: u64,
     pub counts: [u64; 65],
 }
 
 // An element of a person: past the last slot, or a slot's allele, counted from 1, with 0 for a missing one.
-#[derive(Drop)]
+#[derive(Clone, Copy)]
 enum Slot {
     Past,
     Call(u32),
@@ -28,7 +28,7 @@ enum Slot {
 
 // How often a missing allele and each of the first three is called, and how many ends of vector there are, of elements so few that
 // a byte counts them.
-#[derive(Drop)]
+#[derive(Clone, Copy)]
 struct Few {
     none: u8,
     first: u8,

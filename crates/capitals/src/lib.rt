@@ -1,5 +1,7 @@
 // Bytes and numbers as hexadecimal capitals, stored into a lent buffer where they have room.
 // Rests on stores for what a buffer is afterwards.
+#![tactic(auto)]
+
 ghost use Rattle.std.specs.Prelude.{◌≡◌, ◌<◌, length};
 ghost use Rattle.stores.specs.Stores.{fits, filled};
 ghost use Rattle.capitals.specs.Capitals.{capital, capitals, eight};

@@ -15,7 +15,7 @@ use record::Reading;
 use values::Refusal;
 
 // The chosen record's length, or the refusal.
-#[derive(Drop)]
+#[derive(Clone, Copy)]
 pub enum Choosing {
     Chosen(usize),
     Refused(Refusal),

@@ -32,7 +32,7 @@ const CHOICE_ROOM: usize = 30000;
 
 // Where the input stands: before its first line, before the choice, among the records' lines, with so many people chosen, or past a first or a second
 // line that is bad or absent.
-#[derive(Drop)]
+#[derive(Clone, Copy)]
 pub enum Stage {
     First,
     Choice(Facts),
@@ -42,7 +42,7 @@ pub enum Stage {
 }
 
 // After a line: where the input stands then, and how many bytes of text wait; or a buffer is too short.
-#[derive(Drop)]
+#[derive(Clone, Copy)]
 pub enum Stepped {
     Next { stage: Stage, waiting: usize },
     NoRoom,

@@ -1,12 +1,14 @@
 // Numbers as decimal text, and single bytes, put at a place of a lent buffer.
 // Rests on words, for the way in which definitions choose.
+#![tactic(auto)]
+
 ghost use Rattle.std.specs.Prelude.{◌≡◌, [], ◌∷◌, ◌+◌, ◌≤◌, length};
 ghost use Rattle.std.proofs.lemmas.List.Edits.{sets};
 ghost use Rattle.decimal.specs.Decimal.{decimal, placed, PlaceInside, put_told};
 ghost use Rattle.stores.specs.Stores.{filled};
 
 // A text put into a buffer: the place after it, or no room and nothing written.
-#[derive(Drop)]
+#[derive(Clone, Copy)]
 pub enum Put {
     At(usize),
     NoRoom,

@@ -1,4 +1,6 @@
 // Showing an element of a fetched part: a number, bits or a byte by its type, and, of GT, its allele and phase. Rests on types and words.
+#![tactic(auto)]
+
 ghost use Rattle.std.specs.Prelude.{◌≡◌, ◌≢◌, drop};
 ghost use Rattle.std.specs.Int.{w32};
 ghost use Rattle.std.proofs.Common.{to_z};
@@ -11,7 +13,7 @@ use types::Element;
 
 // An element as it is shown: an integer of any width as a signed number with type 3's marks, a float's bits, a byte of text; or nothing past the
 // last one.
-#[derive(Drop)]
+#[derive(Clone, Copy)]
 pub enum Shown {
     Integer(i32),
     Float(u32),
@@ -20,7 +22,7 @@ pub enum Shown {
 }
 
 // An element of GT: an allele's number, a missing allele, an end of vector; no call for a negative or a reserved code; or nothing past the last one.
-#[derive(Drop)]
+#[derive(Clone, Copy)]
 pub enum Call {
     Allele { number: u32, phased: bool },
     Missing { phased: bool },

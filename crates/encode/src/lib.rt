@@ -1,5 +1,7 @@
 // How values are written into a lent buffer: keys, descriptors and elements in the narrowest types.
 // Rests on types for what an element is, and on stores for what is written.
+#![tactic(auto)]
+
 ghost use Rattle.std.specs.Prelude.{◌≡◌, map, ◌≢◌, ◌+◌, ◌*◌, ◌%◌, ◌≤◌, leb, length};
 ghost use Rattle.std.proofs.lemmas.List.Edits.{sets};
 ghost use Rattle.std.specs.Int.{w32};

@@ -1,7 +1,8 @@
 // The four facts of a header, which a record is read and built under. Rests on nothing.
+#![tactic(auto)]
 
 // What the header says: strings in the dictionary, contigs, people, and the dictionary offset of GT.
-#[derive(Drop)]
+#[derive(Clone, Copy)]
 pub struct Facts {
     pub strings: u32,
     pub contigs: u32,

@@ -17,7 +17,7 @@ use types::Use;
 use values::{Integer, Refusal, Value};
 
 // The kinds of fields. ID and FILTER have number 0 only.
-#[derive(Drop)]
+#[derive(Clone, Copy)]
 pub enum Kind {
     Id,
     Allele,
@@ -28,7 +28,7 @@ pub enum Kind {
 
 // A field: its key (0 where the kind has none), type and length, the place of its first element, or just after the descriptor
 // for length 0, and the place after its last. A FORMAT value's length is that of each person. Or the refusal.
-#[derive(Drop)]
+#[derive(Clone, Copy)]
 pub enum Found {
     Field {
         key: u32,

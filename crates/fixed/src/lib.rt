@@ -1,5 +1,7 @@
 // The two lengths and the fixed fields at the front of a record, judged in the order of their bytes.
 // Rests on words for the numbers, on positions for POS and on values for the form of a refusal.
+#![tactic(auto)]
+
 ghost use Rattle.std.specs.Prelude.{◌≡◌, length};
 ghost use Rattle.values.specs.Answers.{refusal_in};
 ghost use Rattle.fixed.specs.Layout.{field, pos_wrong, people_wrong, qual_wrong};
@@ -11,7 +13,7 @@ use values::Refusal;
 
 // The site of a record: its length, the place where its genotype block begins, the fixed fields and the four counts.
 // QUAL is kept as its 32 bits and is never anything else.
-#[derive(Drop)]
+#[derive(Clone, Copy)]
 pub struct Site {
     pub length: usize,
     pub border: usize,
@@ -26,14 +28,14 @@ pub struct Site {
 }
 
 // The two blocks of a record: where the genotype block begins, and where it ends.
-#[derive(Drop)]
+#[derive(Clone, Copy)]
 pub enum Blocks {
     Lent { border: usize, length: usize },
     Refused(Refusal),
 }
 
 // The fixed fields, or the first thing that is wrong at the front of a record.
-#[derive(Drop)]
+#[derive(Clone, Copy)]
 pub enum Fixed {
     Site(Site),
     Refused(Refusal),

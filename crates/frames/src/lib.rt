@@ -22,14 +22,14 @@ const TEXT_ROOM: usize = 2048;
 const FRAME_ROOM: usize = 30000;
 
 // The answer to a line: so many bytes of text; or a buffer is too short for any answer.
-#[derive(Drop)]
+#[derive(Clone, Copy)]
 pub enum Answer {
     Text(usize),
     NoRoom,
 }
 
 // Where the input stands: before its first line, among the records' lines, or past a first line that is bad or absent.
-#[derive(Drop)]
+#[derive(Clone, Copy)]
 pub enum Stage {
     First,
     Records(Facts),
@@ -37,7 +37,7 @@ pub enum Stage {
 }
 
 // After a line: where the input stands then, and how many bytes of text wait; or a buffer is too short for any answer.
-#[derive(Drop)]
+#[derive(Clone, Copy)]
 pub enum Stepped {
     Next { stage: Stage, waiting: usize },
     NoRoom,

@@ -1,5 +1,7 @@
 // The genotype block: FORMAT fields, each a key and a vector for each person, no key twice, to the block's last byte.
 // The block is lent up to its end. Rests on values and vectors, and on fixed for the header's facts.
+#![tactic(auto)]
+
 ghost use Rattle.std.specs.Prelude.{◌≡◌, ◌+◌, ◌%◌, ◌≤◌, drop, length, take, []};
 ghost use Rattle.words.specs.Lists.{among};
 ghost use Rattle.values.specs.Answers.{refusal_in};
@@ -10,7 +12,7 @@ use types::Use;
 use values::{Integer, Refusal, Value};
 
 // Where GT stands: its type, its length for each person and the place of its first element; all 0 where there is no GT. A bare 00 has its place.
-#[derive(Drop)]
+#[derive(Clone, Copy)]
 pub struct Gt {
     pub code: u8,
     pub len: u32,
@@ -18,7 +20,7 @@ pub struct Gt {
 }
 
 // A FORMAT field that is sound: its key, type and length for each person, and the places of its first element and after its last; or its refusal.
-#[derive(Drop)]
+#[derive(Clone, Copy)]
 pub enum FormatField {
     Whole {
         key: u32,
@@ -31,7 +33,7 @@ pub enum FormatField {
 }
 
 // A genotype block that is sound, with its GT; or its refusal.
-#[derive(Drop)]
+#[derive(Clone, Copy)]
 pub enum Genotypes {
     Sound(Gt),
     Refused(Refusal),

@@ -1,5 +1,7 @@
 // Lines of hexadecimal digits: the facts of the first line, the people of a choice's line, and the bytes of a record's line.
 // Rests on words, for the way in which definitions choose.
+#![tactic(auto)]
+
 ghost use Rattle.std.specs.Prelude.{◌≡◌, true, ◌+◌, ◌*◌, ◌<◌, ◌≤◌, drop, get_or, length, take};
 ghost use Rattle.std.proofs.lemmas.List.Edits.{sets};
 ghost use Rattle.hexadecimal.specs.Hexadecimal.{digit, values_from, digits, byte, line_bytes, big, facts_of, eights, choice_of, choice_answered, PeopleInside, frame_of, answered, BytesInside, stored};
@@ -14,14 +16,14 @@ const MOST_DIGITS: usize = 60000;
 const MOST_CHOICE_DIGITS: usize = 240000;
 
 // The first line: the header's facts, or none where it is not 32 digits.
-#[derive(Drop)]
+#[derive(Clone, Copy)]
 pub enum FactsLine {
     Facts(Facts),
     NoFacts,
 }
 
 // A choice's line: so many people stored, a bad line, or a buffer that is too short.
-#[derive(Drop)]
+#[derive(Clone, Copy)]
 pub enum ChoiceLine {
     People(usize),
     Bad,
@@ -29,7 +31,7 @@ pub enum ChoiceLine {
 }
 
 // A record's line: so many bytes stored, a bad line, or a buffer that is too short.
-#[derive(Drop)]
+#[derive(Clone, Copy)]
 pub enum Frame {
     Bytes(usize),
     Bad,

@@ -1,11 +1,13 @@
 // Lines of an input that comes in pieces: one line taken at a time, or what a piece has of it, into a lent buffer.
 // Rests on stores for what a buffer is afterwards.
+#![tactic(auto)]
+
 ghost use Rattle.std.specs.Prelude.{◌≡◌, ◌+◌, ◌-◌, ◌≤◌, drop, length};
 ghost use Rattle.std.proofs.lemmas.List.Edits.{sets};
 ghost use Rattle.lines.specs.Lines.{line_length, fitting, taken, taken_into, TakenInside, taken_told};
 
 // A line that is there, of `len` bytes, and the place after its feed; or the piece has ended before the line did, and `held` bytes of it are held.
-#[derive(Drop)]
+#[derive(Clone, Copy)]
 pub enum Taken {
     Line { len: usize, next: usize },
     Part { held: usize },

@@ -1,5 +1,7 @@
 // Names lent as one text and a list of ends, and text that stops at its first zero byte: each comes back as a part of what was lent.
 // Rests on words' way of choosing.
+#![tactic(auto)]
+
 ghost use Rattle.std.specs.Prelude.{◌≡◌, ◌+◌, ◌≤◌, length, get_or, take};
 ghost use Rattle.names.specs.Names.{before_zero, begin_of, name_of, name_at};
 

@@ -1,5 +1,7 @@
 // Pieces of text put one after the other into a lent buffer, each as far as the buffer goes: put into a buffer of no bytes, they are measured.
 // Rests on stores for a part's bytes and on decimal for a number's text.
+#![tactic(auto)]
+
 ghost use Rattle.std.specs.Prelude.{◌≡◌, [], ◌∷◌, length};
 ghost use Rattle.std.proofs.lemmas.List.Edits.{sets};
 ghost use Rattle.decimal.specs.Decimal.{decimal};

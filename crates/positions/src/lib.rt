@@ -1,14 +1,16 @@
 // Positions: VCF counts the first base as 1, BCF as 0. Each has a type of its own, so that the two never meet in one sum.
 // Rests on words, for signed numbers as bits.
+#![tactic(auto)]
+
 ghost use Rattle.std.specs.Prelude.{◌≡◌};
 ghost use Rattle.positions.specs.Positions.{pos_of, pos_bits, one_based, zero_based};
 
 // A position as VCF writes it: the first base is 1.
-#[derive(Drop)]
+#[derive(Clone, Copy)]
 pub struct VcfPosition(pub i32);
 
 // A position as BCF stores it: the first base is 0.
-#[derive(Drop)]
+#[derive(Clone, Copy)]
 pub struct BcfPosition(pub i32);
 
 // The position that 32 bits are, as POS stands in a record.

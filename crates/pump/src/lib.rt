@@ -1,11 +1,13 @@
 // What moves a line program's bytes: a piece read, what waits written, and what goes wrong outside told on standard error.
 // Rests on stores for what has room; what is read or written no contract can say, so these promise ranges.
+#![tactic(auto)]
+
 ghost use Rattle.std.specs.Prelude.{ltb, length};
 ghost use Rattle.stores.specs.Stores.{fits};
 ghost use Rattle.pump.specs.Pump.{PieceInside, WroteInside, RoomMade};
 
 // The next piece of the input: so many bytes of it; none, where the input has ended; or a read that failed, which is told.
-#[derive(Drop)]
+#[derive(Clone, Copy)]
 pub enum Piece {
     Bytes(usize),
     End,
@@ -13,7 +15,7 @@ pub enum Piece {
 }
 
 // What waits then: so many bytes; or a write that failed, which is told.
-#[derive(Drop)]
+#[derive(Clone, Copy)]
 pub enum Wrote {
     Waiting(usize),
     Failed,

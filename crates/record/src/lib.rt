@@ -11,7 +11,7 @@ use site::Step;
 use values::Refusal;
 
 // A record that is accepted, with its site and where GT stands; or the refusal's number and place.
-#[derive(Drop)]
+#[derive(Clone, Copy)]
 pub enum Reading {
     Accepted { site: Site, gt: Gt },
     Refused(Refusal),

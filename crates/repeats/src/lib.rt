@@ -1,5 +1,7 @@
 // The first number of a list that is no offset below a size, and the first that stood earlier: of a part's elements, and of integers.
 // Rests on words and types for the elements, and on vectors for their list.
+#![tactic(auto)]
+
 ghost use Rattle.std.specs.Prelude.{◌≡◌, map, ◌/◌, ◌<◌, ◌≤◌, get_or, length};
 ghost use Rattle.std.specs.Int.{w32};
 ghost use Rattle.std.proofs.Common.{of_z};

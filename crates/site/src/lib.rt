@@ -1,5 +1,7 @@
 // The site block after the fixed fields: ID, alleles, FILTER and INFO pairs, to the block's last byte.
 // The block is lent up to its end. Rests on values and vectors, and on repeats for FILTER.
+#![tactic(auto)]
+
 ghost use Rattle.std.specs.Prelude.{◌≡◌, ◌-◌, ◌≤◌, drop, length};
 ghost use Rattle.values.specs.Answers.{refusal_in};
 ghost use Rattle.vectors.specs.Vectors.{JudgedInside};
@@ -13,7 +15,7 @@ use values::{Integer, Refusal, Value};
 use vectors::Judged;
 
 // A part of the block that is sound: the place after it; or its refusal.
-#[derive(Drop)]
+#[derive(Clone, Copy)]
 pub enum Step {
     At(usize),
     Refused(Refusal),

@@ -1,5 +1,7 @@
 // Stores into a lent buffer: a part's bytes, and a number's bytes, low byte first, where they have room.
 // Rests on words for what a number's bytes are.
+#![tactic(auto)]
+
 ghost use Rattle.std.specs.Prelude.{◌≡◌, length};
 ghost use Rattle.words.specs.Words.{bytes};
 ghost use Rattle.stores.specs.Stores.{fits, filled};

@@ -11,14 +11,14 @@ use record::Reading;
 use values::Refusal;
 
 // What a tally says: counted, with the record's site; or the refusal's number and place.
-#[derive(Drop)]
+#[derive(Clone, Copy)]
 pub enum Counting {
     Counted(Site),
     Refused(Refusal),
 }
 
 // A tally: its answer, and the calls beside it. Where it is refused, every counter is 0.
-#[derive(Drop)]
+#[derive(Clone, Copy)]
 pub struct Tallied {
     pub answer: Counting,
     pub calls: Calls,

@@ -1,11 +1,13 @@
 // The sixteen type codes of a descriptor's low half, what an element of a type is, and how it is shown.
 // Rests on words, for the signed numbers of 32 bits.
+#![tactic(auto)]
+
 ghost use Rattle.std.specs.Prelude.{◌≡◌, ◌≢◌, ◌<◌, ◌≤◌};
 ghost use Rattle.types.specs.Rows.{row_of, width_of, allowed};
 ghost use Rattle.types.specs.Elements.{kind, marked, shown, widened, narrowest};
 
 // The places where a typed value may stand. A key and a true length are one use: one integer with a descriptor of its own.
-#[derive(Drop)]
+#[derive(Clone, Copy)]
 pub enum Use {
     Id,
     Allele,
@@ -17,7 +19,7 @@ pub enum Use {
 }
 
 // A row of the table: the bytes of an element, 0 for a bare 00 and for a code that is unused, and where a value of the type may stand.
-#[derive(Drop)]
+#[derive(Clone, Copy)]
 pub struct Row {
     pub width: u8,
     pub id: bool,
@@ -139,7 +141,7 @@ pub fn allows(r: Row, role: Use) -> bool
 }
 
 // What an element is.
-#[derive(Drop)]
+#[derive(Clone, Copy)]
 pub enum Element {
     Plain,
     Missing,

@@ -1,5 +1,7 @@
 // Typed values: the descriptor, the key and the value that stand at a place of a block.
 // A block is lent up to its end, so the end of the slice is the end of the block. Rests on types and words.
+#![tactic(auto)]
+
 ghost use Rattle.std.specs.Prelude.{◌≡◌, ◌+◌, ◌*◌, ◌≤◌, leb, drop, length};
 ghost use Rattle.values.specs.Answers.{refusal_in, integer_says, descriptor_says, value_says, IntegerInside, DescriptorInside, ValueInside};
 ghost use Rattle.values.specs.Values.{integer, true_length, keyed, may_stand, described, present};
@@ -7,28 +9,28 @@ ghost use Rattle.values.specs.Values.{integer, true_length, keyed, may_stand, de
 use types::Use;
 
 // Why something is refused: 01's number, and the place, a byte offset.
-#[derive(Drop)]
+#[derive(Clone, Copy)]
 pub struct Refusal {
     pub number: u32,
     pub place: usize,
 }
 
 // One integer with a descriptor of its own: the 32 bits that it is shown by, and the place after it.
-#[derive(Drop)]
+#[derive(Clone, Copy)]
 pub enum Integer {
     One { bits: u32, next: usize },
     Refused(Refusal),
 }
 
 // A descriptor: the type, the length and the place of the first element. A bare 00 is a type of its own, 0, of length 0.
-#[derive(Drop)]
+#[derive(Clone, Copy)]
 pub enum Descriptor {
     Typed { code: u8, len: u32, first: usize },
     Refused(Refusal),
 }
 
 // A value with all its elements: the descriptor's answer, and the place after the last element.
-#[derive(Drop)]
+#[derive(Clone, Copy)]
 pub enum Value {
     Present {
         code: u8,

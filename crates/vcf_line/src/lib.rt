@@ -17,7 +17,7 @@ use record::Reading;
 use values::Refusal;
 
 // A line that was written, with its length; or the refusal, and nothing was written.
-#[derive(Drop)]
+#[derive(Clone, Copy)]
 pub enum Line {
     Written(usize),
     Refused(Refusal),

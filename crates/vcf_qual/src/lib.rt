@@ -1,12 +1,14 @@
 // QUAL as text: a dot when missing, digits when it is a whole number from 0 to 16,777,215. Its bits are taken apart by whole numbers.
 // Rests on pieces.
+#![tactic(auto)]
+
 ghost use Rattle.std.specs.Prelude.{◌≡◌, ◌^◌, ◌≤◌, ◌<◌, length};
 ghost use Rattle.std.proofs.lemmas.List.Edits.{sets};
 ghost use Rattle.pieces.specs.Pieces.{after};
 ghost use Rattle.vcf_qual.specs.Qual.{whole_of, printable, qual_text};
 
 // What 32 float bits are: a whole number from 0 to 16,777,215, or anything else.
-#[derive(Drop)]
+#[derive(Clone, Copy)]
 pub enum Whole {
     Number(u32),
     Other,

@@ -1,5 +1,7 @@
 // The elements of vectors, judged one after the other, with the exact place of the first bad one.
 // Rests on types for what an element is, on words for its number, and on values for the form of a refusal.
+#![tactic(auto)]
+
 ghost use Rattle.std.specs.Prelude.{◌≡◌, ◌≢◌, true, false, ◌+◌, ◌*◌, ◌<◌, ◌≤◌, drop, length};
 ghost use Rattle.words.specs.Pick.{pick};
 ghost use Rattle.types.specs.Rows.{width_of};
@@ -13,14 +15,14 @@ use types::{Element, Use};
 use values::{Refusal, Value};
 
 // Whether elements are sound, or the first that is not.
-#[derive(Drop)]
+#[derive(Clone, Copy)]
 pub enum Judged {
     Sound,
     Refused(Refusal),
 }
 
 // An element judged: refused with a number, or passed, with whether the vector has ended.
-#[derive(Drop)]
+#[derive(Clone, Copy)]
 pub enum Turn {
     Bad(u32),
     On(bool),

@@ -8,14 +8,14 @@ use fetch::{Found, Kind};
 use record::Reading;
 use values::Refusal;
 
-#[derive(Drop)]
+#[derive(Clone, Copy)]
 pub struct Walker<'a> {
     pub bytes: &'a [u8],
     pub at: usize,
 }
 
 // A pair: its key, its value's type, length and place as fetching gives them, and the place after it; or the end.
-#[derive(Drop)]
+#[derive(Clone, Copy)]
 pub enum Pair {
     Found {
         key: u32,
@@ -28,7 +28,7 @@ pub enum Pair {
 }
 
 // What opening answers: reading's refusal, or the place of the first pair.
-#[derive(Drop)]
+#[derive(Clone, Copy)]
 pub enum Opening {
     First(usize),
     Refused(Refusal),

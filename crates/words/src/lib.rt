@@ -1,5 +1,7 @@
 // Little-endian numbers of up to four bytes in a lent slice, and 32 bits as a signed number and back.
 // Rests on nothing; every other crate rests on it.
+#![tactic(auto)]
+
 ghost use Rattle.std.specs.Prelude.{◌≡◌, ◌+◌, ◌*◌, ◌/◌, ◌<◌, ◌≤◌, drop, get_or, length, take};
 ghost use Rattle.std.specs.Int.{w32};
 ghost use Rattle.std.proofs.Common.{of_z, to_z};

@@ -1,0 +1,8 @@
+-- `names::end_of` meets its contract.
+use mathlib.Core.Path.{sym}
+use Rattle.words.proofs.Words.{past}
+use borrow.Author.Rules.{rules}
+use Rattle.names.proofs.end_of.Goals as goal
+
+pub returns-then-ends-k : goal.returns-then-ends-k
+returns-then-ends-k c = let a = c.args in sym (past a.ends.now a.i c.if-ends-k.true)

@@ -1,0 +1,6 @@
+-- `vectors::most_of` meets its contract.
+use borrow.Author.Rules.{rules}
+use Rattle.vectors.proofs.most_of.Goals as goal
+
+pub returns-in-Gt : goal.returns-in-Gt
+returns-in-Gt c = simp (c.in-Gt.is, c.code_most.ensures)
