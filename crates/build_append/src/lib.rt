@@ -1,5 +1,7 @@
 // Bytes of a value appended to a record in a lent buffer: with its key before it, in the narrowest types, unless the rules or the room are
 // against it. Rests on encode for what is written and on stores.
+#![tactic(auto)]
+
 ghost use Rattle.std.specs.Prelude.{map, ◌≡◌, ◌+◌, ◌*◌, ◌^◌, ◌<◌, ◌≤◌, length};
 ghost use Rattle.std.proofs.lemmas.List.Edits.{sets};
 ghost use Rattle.std.specs.Int.{w32};

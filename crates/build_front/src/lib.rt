@@ -1,5 +1,7 @@
 // The fixed fields as they are written: what is wrong with them, the first bytes, and the lengths and counts that are filled in last. Rests on
 // fixed for the layout and the fields' rules, and on stores.
+#![tactic(auto)]
+
 ghost use Rattle.std.specs.Prelude.{◌≡◌, ◌+◌, ◌-◌, ◌%◌, ltb, length};
 ghost use Rattle.words.specs.Pick.{pick};
 ghost use Rattle.stores.specs.Stores.{filled};

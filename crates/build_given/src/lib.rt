@@ -1,5 +1,7 @@
 // The rules of a value on elements that a builder is given, as integers, float bits or text: the number of what is wrong, or 0.
 // Rests on vectors and site for the rules, and on repeats for FILTER's.
+#![tactic(auto)]
+
 ghost use Rattle.std.specs.Prelude.{◌≡◌, false, map, ◌<◌};
 ghost use Rattle.std.specs.Int.{w32};
 ghost use Rattle.std.proofs.Common.{of_z};

@@ -1,5 +1,7 @@
 // The calls of a GT field's bytes, counted in one sweep: people without a genotype, missing alleles, and the calls of each allele.
 // Rests on types for what an element is, on words for its number, and on vectors for a person's numbers.
+#![tactic(auto)]
+
 ghost use Rattle.std.specs.Prelude.{◌≡◌, true, false, ◌≢◌, ◌⊎◌, ◌+◌, ◌-◌, ◌*◌, ◌^◌, ◌<◌, ◌≤◌, drop, length, eqb, ltb};
 ghost use Rattle.words.specs.Pick.{pick};
 ghost use Rattle.types.specs.Rows.{width_of};

@@ -1,5 +1,7 @@
 // A choice of people: whether it ascends, and the size of what it keeps of FORMAT fields, which is known before any byte is written.
 // Rests on fetch for the FORMAT fields.
+#![tactic(auto)]
+
 ghost use Rattle.std.specs.Prelude.{◌≡◌, ◌-◌, ◌*◌, ◌^◌, ◌<◌, ◌≤◌, drop, length};
 ghost use Rattle.types.specs.Rows.{width_of};
 ghost use Rattle.choice.specs.Choice.{ascending};

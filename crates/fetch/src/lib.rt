@@ -1,5 +1,7 @@
 // Fetching: one field of a record, by its kind and number from 0; where its elements stand, and the elements themselves.
 // The record is read first; then fields are passed by their descriptors alone. Rests on record, and on values for what is passed.
+#![tactic(auto)]
+
 ghost use Rattle.std.specs.Prelude.{◌≡◌, ◌+◌, length, take, drop};
 ghost use Rattle.values.specs.Answers.{refusal, refusal_in};
 ghost use Rattle.site.specs.Steps.{StepInside};

@@ -1,1 +1,2 @@
 // What holds of fetching, as theorems over the definitions of fetching and of reading: no code.
+#![tactic(auto)]

@@ -1,5 +1,7 @@
 // Reading: one uncompressed BCF2 record at the start of a lent slice, judged in 01's order.
 // Rests on the front of a record (fixed), its site block (site) and its genotype block (genotypes).
+#![tactic(auto)]
+
 ghost use Rattle.std.specs.Prelude.{◌≡◌, length};
 ghost use Rattle.values.specs.Answers.{refusal_in};
 ghost use Rattle.record.specs.Reading.{reading_says, reading, ReadingInside};

@@ -1,5 +1,7 @@
 // The calls of a GT field as words of a VCF line, each with a tab before it, put into a lent buffer as far as it goes.
 // Rests on pieces for what is put, and on types for the elements.
+#![tactic(auto)]
+
 ghost use Rattle.std.specs.Prelude.{◌≡◌, [], ◌∷◌, ◌+◌, ◌*◌, ◌<◌, ◌≤◌, length, drop, replicate};
 ghost use Rattle.std.proofs.lemmas.List.Edits.{sets};
 ghost use Rattle.types.specs.Rows.{width_of};

@@ -1,5 +1,7 @@
 // The INFO walker: it holds the lent record and the place of the next INFO pair, and yields the pairs one after the other.
 // The functions over the struct are thin; the work is done by `pair_at` on the slice and a number. Rests on fetch, for a field at a place and for opening.
+#![tactic(auto)]
+
 ghost use Rattle.std.specs.Prelude.{◌≡◌, drop};
 ghost use Rattle.walker.specs.Walk.{as_pair, pair_at, pair_in, after_pair, next_at, opened, walker, moved_on, advanced};
 

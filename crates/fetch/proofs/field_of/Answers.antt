@@ -1,0 +1,60 @@
+-- `fetch::field_of` meets its contract.
+use mathlib.Core.Path.{◌≡◌, refl, sym, ◌∙◌, ap}
+use mathlib.Core.List.{List}
+use Prim.Native.Nat.{ℕ}
+use native.Mathlib.Omega.{arith}
+use lib.ListN.{length, take, drop, length-take}
+use borrow.Author.Tests.{le-leb, lt-leb}
+use Rattle.fetch.specs.Engine.{field_in, or_none}
+use Rattle.fetch.proofs.Account.{field_number}
+use Rattle.fetch.proofs.Fields.{found_on, none_inside}
+use borrow.Author.Rules.{rules}
+use Rattle.fetch.proofs.field_of.Goals as goal
+
+pub returns-then-count_of-number : goal.returns-then-count_of-number
+returns-then-count_of-number c =
+    let a = c.args in
+    record {
+      value = simp (field_number a.kind a.number a.site a.s.now, ← c.count_of.ensures, le-leb _ _ c.if-count_of-number.true, c.no_field.ensures);
+      found_inside = rw c.no_field.ensures tt;
+    }
+
+pub returns-then-is_format : goal.returns-then-is_format
+returns-then-is_format c =
+    let a = c.args in
+    let s = a.s.now in
+    let t = a.site in
+    let e = c.up_to.ensures.result_value in record {
+      value = rw (
+        field_number a.kind a.number t s,
+        ← c.count_of.ensures,
+        lt-leb _ _ c.if-count_of-number.false,
+        ← c.is_format.ensures,
+        c.if-is_format.true,
+        ← e,
+        c.or_none.ensures,
+        c.field_in.ensures.value,
+      );
+      found_inside = rw c.or_none.ensures
+          (none_inside c.field_in.result t.border (length c.up_to.result.now) (length s) (rw (e, length-take) (omega arith)) c.field_in.ensures.found_inside);
+    }
+
+pub returns : goal.returns
+returns c =
+    let a = c.args in
+    let s = a.s.now in
+    let t = a.site in
+    let e = c.up_to-2.ensures.result_value in record {
+      value = rw (
+        field_number a.kind a.number t s,
+        ← c.count_of.ensures,
+        lt-leb _ _ c.if-count_of-number.false,
+        ← c.is_format.ensures,
+        c.if-is_format.false,
+        ← e,
+        c.or_none-2.ensures,
+        c.field_in-2.ensures.value,
+      );
+      found_inside = rw c.or_none-2.ensures
+          (none_inside c.field_in-2.result 32 (length c.up_to-2.result.now) (length s) (rw (e, length-take) (omega arith)) c.field_in-2.ensures.found_inside);
+    }

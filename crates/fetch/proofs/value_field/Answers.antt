@@ -1,0 +1,9 @@
+-- `fetch::value_field` meets its contract.
+use borrow.Author.Rules.{rules}
+use Rattle.fetch.proofs.value_field.Goals as goal
+
+pub returns-in-Present : goal.returns-in-Present
+returns-in-Present c = simp c.in-Present.is
+
+pub returns-in-Refused : goal.returns-in-Refused
+returns-in-Refused c = simp c.in-Refused.is

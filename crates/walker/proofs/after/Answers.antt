@@ -1,0 +1,6 @@
+-- `walker::after` meets its contract.
+use borrow.Author.Rules.{rules}
+use Rattle.walker.proofs.after.Goals as goal
+
+pub returns-in-Found : goal.returns-in-Found
+returns-in-Found c = simp c.in-Found.is

@@ -1,0 +1,6 @@
+-- `walker::next_at` meets its contract.
+use borrow.Author.Rules.{rules}
+use Rattle.walker.proofs.next_at.Goals as goal
+
+pub returns : goal.returns
+returns c = simp (← c.pair_at.ensures, c.after.ensures)
