@@ -1,6 +1,8 @@
 // Building a record, turn by turn: begin, ID, one or more alleles, FILTER, INFO fields, FORMAT fields, end, over a lent buffer and a state
 // that goes in by value and comes back by value. Rests on build_rules for what is wrong with a turn and on build_append and
 // build_front for what is written.
+#![tactic(auto)]
+
 ghost use Rattle.std.specs.Prelude.{map, ◌≡◌, ◌+◌, ◌<◌, ◌≤◌, length};
 ghost use Rattle.std.specs.Int.{w32};
 ghost use Rattle.std.proofs.Common.{of_z};

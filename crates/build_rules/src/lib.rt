@@ -1,5 +1,7 @@
 // What is wrong with a turn of building, as the number of its refusal: its order first, by how far the build is, then what it is given. Rests on
 // build_append for the first of two numbers, on build_front for the fixed fields, and on build_given for the rules of values.
+#![tactic(auto)]
+
 ghost use Rattle.std.specs.Prelude.{map, ◌≡◌, eqb, length};
 ghost use Rattle.std.specs.Int.{w32};
 ghost use Rattle.std.proofs.Common.{of_z};

@@ -1,5 +1,7 @@
 // Choosing people: the record of some of the people, into a lent buffer.
 // Rests on record for reading, on fetch for the FORMAT fields, on choice for who is chosen, and on stores for what is written.
+#![tactic(auto)]
+
 ghost use Rattle.std.specs.Prelude.{◌≡◌, true, ◌++◌, ◌+◌, ◌-◌, ◌*◌, ◌^◌, ◌<◌, ◌≤◌, drop, get_or, length, take};
 ghost use Rattle.std.proofs.lemmas.List.Edits.{sets};
 ghost use Rattle.fixed.specs.Layout.{id_at};

@@ -1,1 +1,2 @@
 // What holds of the chosen record, as theorems over the definitions of choosing: no code.
+#![tactic(auto)]

@@ -1,5 +1,7 @@
 // What the line program says of one line: the answer's whole text, into a lent buffer; and its step from line to line.
 // Rests on hexadecimal and decimal for the text, and on record and tally for what is said.
+#![tactic(auto)]
+
 ghost use Rattle.std.specs.Prelude.{[], ◌∷◌, ◌++◌, ◌≡◌, ◌+◌, ◌*◌, ◌≤◌, length};
 ghost use Rattle.std.proofs.lemmas.List.Edits.{sets};
 ghost use Rattle.frames.specs.Text.{spaced, line, bad_line, no_line};

@@ -1,5 +1,7 @@
 // The tally of a record: people without a genotype, missing alleles, and how often each allele is called.
 // Rests on record for reading and on calls for the sweep over GT's bytes.
+#![tactic(auto)]
+
 ghost use Rattle.std.specs.Prelude.{◌≡◌};
 ghost use Rattle.tally.specs.Tally.{nobody, calls_of, refused_tally, tallied};
 

@@ -1,5 +1,7 @@
 // One VCF data line of a record, into a lent buffer: the record is read, the line measured and then written.
 // Rests on reading for the record, on vcf_site, vcf_qual and vcf_calls for the columns, and on pieces for how they are put.
+#![tactic(auto)]
+
 ghost use Rattle.std.specs.Prelude.{◌≡◌, ◌∷◌, length};
 ghost use Rattle.std.proofs.lemmas.List.Edits.{sets};
 ghost use Rattle.values.specs.Answers.{refusal, refusal_in};

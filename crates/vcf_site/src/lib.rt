@@ -1,5 +1,7 @@
 // The site's columns of a VCF line, put into a lent buffer as far as it goes: CHROM, POS and ID; REF and ALT; FILTER.
 // Rests on fetching for the fields of a record that was read, and on pieces and names for how they are put.
+#![tactic(auto)]
+
 ghost use Rattle.std.specs.Prelude.{◌≡◌, map, ◌+◌, ◌-◌, ◌*◌, ◌≤◌, length, drop};
 ghost use Rattle.std.proofs.lemmas.List.Edits.{sets};
 ghost use Rattle.std.specs.Int.{w32};

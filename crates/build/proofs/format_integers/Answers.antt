@@ -1,0 +1,33 @@
+-- `build::format_integers` meets its contract.
+use mathlib.Core.Path.{◌≡◌, ◌∙◌, sym}
+use mathlib.Core.List.{map}
+use lib.ListN.{length-map}
+use mir.Syntax.{w32}
+use mir.Val.{of_z}
+use Rattle.words.proofs.Sign.{back}
+use Rattle.shown.specs.Shown.{integers}
+use Rattle.build.specs.Values.{given_number}
+use Rattle.build.specs.Turns.{format_given, after_format}
+use Rattle.build_append.proofs.Writing.{written_room, written_rules}
+use Rattle.build.proofs.Answers.{format_number, format_below, pair_eq, format_answer, after_written}
+use borrow.Author.Rules.{rules}
+use Rattle.build.proofs.format_integers.Goals as goal
+
+pub format_turn-requires : goal.format_turn-requires
+format_turn-requires c =
+    λ z.
+    let sound = written_rules _ _ _ _ _ c.append_integers-done.ensures.told z in
+    (written_room _ _ _ _ _ c.append_integers-done.ensures.told z, format_below _ _ _ _ _ _ _ _ c.first_of-rules.ensures c.format_number-front.ensures sound)
+
+pub returns : goal.returns
+unfolding given_number format_given after_format
+returns c =
+    let a = c.args in
+    let st = a.state in
+    let xs = a.values.now in
+    let key : c.bits-k.result ≡ of_z w32 a.key = rw (back a.key c.ranges.key) at c.bits-k.ensures in
+    let n = format_number st _ _ _ _ _ a.len _ _ integers (map (of_z w32) xs) key (sym (length-map xs (of_z w32))) c.first_of-rules.ensures c.format_number-front.ensures c.judge_integers.ensures c.most_for-most.ensures in
+    let bs = pair_eq _ _ _ integers (map (of_z w32) xs) key in record {
+      told = c.format_turn.ensures ∙ format_answer st _ _ _ _ _ _ _ _ c.append_integers-done.ensures.told bs n key;
+      written = c.append_integers-done.ensures.written ∙ after_written st _ _ _ _ _ bs n;
+    }

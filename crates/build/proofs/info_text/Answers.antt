@@ -1,0 +1,34 @@
+-- `build::info_text` meets its contract.
+use mathlib.Core.Path.{◌≡◌, ◌∙◌, refl}
+use native.Mathlib.Nat.{add-zero}
+use native.Mathlib.Omega.{arith}
+use mir.Syntax.{w32}
+use mir.Val.{of_z}
+use Rattle.words.proofs.Sign.{back}
+use Rattle.shown.specs.Shown.{text}
+use Rattle.build.specs.Values.{given_number}
+use Rattle.build.specs.Turns.{info_given, after_info}
+use Rattle.build.specs.declared.Stage.TheVariants.{Infos}
+use Rattle.build_append.proofs.Writing.{written_room, written_rules}
+use Rattle.build.proofs.Answers.{info_number, info_below, pair_eq, site_answer, after_written}
+use borrow.Author.Rules.{rules}
+use Rattle.build.proofs.info_text.Goals as goal
+
+pub site_turn-requires : goal.site_turn-requires
+site_turn-requires c =
+    λ z.
+    let few = info_below _ _ _ _ _ _ _ c.first_of-rules.ensures c.info_key-sound.ensures (written_rules _ _ _ _ _ c.append_text-done.ensures.told z) in
+    (written_room _ _ _ _ _ c.append_text-done.ensures.told z, omega arith, omega (arith, few))
+
+pub returns : goal.returns
+unfolding given_number info_given after_info
+returns c =
+    let a = c.args in
+    let st = a.state in
+    let xs = a.part.now in
+    let key : c.bits-k.result ≡ of_z w32 a.key = rw (back a.key c.ranges.key) at c.bits-k.ensures in
+    let n = info_number st _ _ _ _ _ _ text xs key refl c.first_of-rules.ensures c.info_key-sound.ensures c.judge_text.ensures in
+    let bs = pair_eq _ _ _ text xs key in record {
+      told = c.site_turn.ensures ∙ site_answer st _ _ _ _ _ _ Infos 0 1 _ _ c.append_text-done.ensures.told bs n (add-zero _) refl;
+      written = c.append_text-done.ensures.written ∙ after_written st _ _ _ _ _ bs n;
+    }

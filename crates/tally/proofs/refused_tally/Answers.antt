@@ -1,0 +1,6 @@
+-- `tally::refused_tally` meets its contract.
+use borrow.Author.Rules.{rules}
+use Rattle.tally.proofs.refused_tally.Goals as goal
+
+pub returns : goal.returns
+returns c = simp c.without_all.ensures
