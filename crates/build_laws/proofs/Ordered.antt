@@ -87,42 +87,42 @@ ended_none {f} {st} {last} {buf} {out} (info p ∷ xs) h run = absurd (omega (ar
 ended_none {f} {st} {last} {buf} {out} (format y ∷ xs) h run = absurd (omega (arith, (run_order run).1))
 ended_none {f} {st} {last} {buf} {out} (end ∷ xs) h run = absurd (omega (arith, (run_order run).1))
 
-run_fields : {f : Facts} {st last : Builder} {buf out : List ℕ} (xs : List Turn) → rank st.stage ≡ 6 → rank last.stage ≡ 7
+run_fields : {f : Facts} {last : Builder} {out : List ℕ} (xs : List Turn) {st : Builder} {buf : List ℕ} → rank st.stage ≡ 6 → rank last.stage ≡ 7
     → Run f st buf xs last out → Fields xs
-run_fields {f} {st} {last} {buf} {out} [] h e run = let z = rw (run_none run).0 at e in absurd (omega arith)
-run_fields {f} {st} {last} {buf} {out} (begin c p r q ∷ xs) h e run = absurd (omega (arith, (run_order run).1))
-run_fields {f} {st} {last} {buf} {out} (id ys ∷ xs) h e run = absurd (omega (arith, (run_order run).1))
-run_fields {f} {st} {last} {buf} {out} (allele ys ∷ xs) h e run = absurd (omega (arith, (run_order run).1))
-run_fields {f} {st} {last} {buf} {out} (filter ys ∷ xs) h e run = absurd (omega (arith, (run_order run).1))
-run_fields {f} {st} {last} {buf} {out} (info p ∷ xs) h e run = absurd (omega (arith, (run_order run).1))
-run_fields {f} {st} {last} {buf} {out} (format y ∷ xs) h e run =
+run_fields {f} {last} {out} [] {st} {buf} h e run = let z = rw (run_none run).0 at e in absurd (omega arith)
+run_fields {f} {last} {out} (begin c p r q ∷ xs) {st} {buf} h e run = absurd (omega (arith, (run_order run).1))
+run_fields {f} {last} {out} (id ys ∷ xs) {st} {buf} h e run = absurd (omega (arith, (run_order run).1))
+run_fields {f} {last} {out} (allele ys ∷ xs) {st} {buf} h e run = absurd (omega (arith, (run_order run).1))
+run_fields {f} {last} {out} (filter ys ∷ xs) {st} {buf} h e run = absurd (omega (arith, (run_order run).1))
+run_fields {f} {last} {out} (info p ∷ xs) {st} {buf} h e run = absurd (omega (arith, (run_order run).1))
+run_fields {f} {last} {out} (format y ∷ xs) {st} {buf} h e run =
     let more = run_fields xs refl e (run_first run).1 in
     record { fields = y ∷ more.fields; turns = ap (λ zs. format y ∷ zs) more.turns }
-run_fields {f} {st} {last} {buf} {out} (end ∷ xs) h e run =
+run_fields {f} {last} {out} (end ∷ xs) {st} {buf} h e run =
     record { fields = []; turns = ap (λ zs. end ∷ zs) (ended_none xs refl (run_first run).1) }
 
-run_pairs : {f : Facts} {st last : Builder} {buf out : List ℕ} (xs : List Turn) → (4 ≤ rank st.stage) × (rank st.stage ≤ 5) → rank last.stage ≡ 7
+run_pairs : {f : Facts} {last : Builder} {out : List ℕ} (xs : List Turn) {st : Builder} {buf : List ℕ} → (4 ≤ rank st.stage) × (rank st.stage ≤ 5) → rank last.stage ≡ 7
     → Run f st buf xs last out → Pairs xs
-run_pairs {f} {st} {last} {buf} {out} [] h e run = let z = rw (run_none run).0 at e in absurd (omega arith)
-run_pairs {f} {st} {last} {buf} {out} (begin c p r q ∷ xs) h e run = absurd (omega (arith, (run_order run).1))
-run_pairs {f} {st} {last} {buf} {out} (id ys ∷ xs) h e run = absurd (omega (arith, (run_order run).1))
-run_pairs {f} {st} {last} {buf} {out} (allele ys ∷ xs) h e run = absurd (omega (arith, (run_order run).1))
-run_pairs {f} {st} {last} {buf} {out} (filter ys ∷ xs) h e run = absurd (omega (arith, (run_order run).1))
-run_pairs {f} {st} {last} {buf} {out} (info p ∷ xs) h e run =
+run_pairs {f} {last} {out} [] {st} {buf} h e run = let z = rw (run_none run).0 at e in absurd (omega arith)
+run_pairs {f} {last} {out} (begin c p r q ∷ xs) {st} {buf} h e run = absurd (omega (arith, (run_order run).1))
+run_pairs {f} {last} {out} (id ys ∷ xs) {st} {buf} h e run = absurd (omega (arith, (run_order run).1))
+run_pairs {f} {last} {out} (allele ys ∷ xs) {st} {buf} h e run = absurd (omega (arith, (run_order run).1))
+run_pairs {f} {last} {out} (filter ys ∷ xs) {st} {buf} h e run = absurd (omega (arith, (run_order run).1))
+run_pairs {f} {last} {out} (info p ∷ xs) {st} {buf} h e run =
     let more = run_pairs xs (omega arith, omega arith) e (run_first run).1 in
     record { pairs = p ∷ more.pairs; fields = more.fields; turns = ap (λ zs. info p ∷ zs) more.turns }
-run_pairs {f} {st} {last} {buf} {out} (format y ∷ xs) h e run =
+run_pairs {f} {last} {out} (format y ∷ xs) {st} {buf} h e run =
     let more = run_fields xs refl e (run_first run).1 in
     record { pairs = []; fields = y ∷ more.fields; turns = ap (λ zs. format y ∷ zs) more.turns }
-run_pairs {f} {st} {last} {buf} {out} (end ∷ xs) h e run =
+run_pairs {f} {last} {out} (end ∷ xs) {st} {buf} h e run =
     record { pairs = []; fields = []; turns = ap (λ zs. end ∷ zs) (ended_none xs refl (run_first run).1) }
 
-run_listed : {f : Facts} {st last : Builder} {buf out : List ℕ} (xs : List Turn) → (2 ≤ rank st.stage) × (rank st.stage ≤ 3) → rank last.stage ≡ 7
+run_listed : {f : Facts} {last : Builder} {out : List ℕ} (xs : List Turn) {st : Builder} {buf : List ℕ} → (2 ≤ rank st.stage) × (rank st.stage ≤ 3) → rank last.stage ≡ 7
     → Run f st buf xs last out → Listed (rank st.stage) xs
-run_listed {f} {st} {last} {buf} {out} [] h e run = let z = rw (run_none run).0 at e in absurd (omega arith)
-run_listed {f} {st} {last} {buf} {out} (begin c p r q ∷ xs) h e run = absurd (omega (arith, (run_order run).1))
-run_listed {f} {st} {last} {buf} {out} (id ys ∷ xs) h e run = absurd (omega (arith, (run_order run).1))
-run_listed {f} {st} {last} {buf} {out} (allele ys ∷ xs) h e run =
+run_listed {f} {last} {out} [] {st} {buf} h e run = let z = rw (run_none run).0 at e in absurd (omega arith)
+run_listed {f} {last} {out} (begin c p r q ∷ xs) {st} {buf} h e run = absurd (omega (arith, (run_order run).1))
+run_listed {f} {last} {out} (id ys ∷ xs) {st} {buf} h e run = absurd (omega (arith, (run_order run).1))
+run_listed {f} {last} {out} (allele ys ∷ xs) {st} {buf} h e run =
     let more = run_listed xs (omega arith, omega arith) e (run_first run).1 in
     record {
       alleles = ys ∷ more.alleles;
@@ -132,7 +132,7 @@ run_listed {f} {st} {last} {buf} {out} (allele ys ∷ xs) h e run =
       some = λ k. omega arith;
       turns = ap (λ zs. allele ys ∷ zs) more.turns;
     }
-run_listed {f} {st} {last} {buf} {out} (filter ys ∷ xs) h e run =
+run_listed {f} {last} {out} (filter ys ∷ xs) {st} {buf} h e run =
     let o = (run_order run).0 in
     let more = run_pairs xs (omega arith, omega arith) e (run_first run).1 in
     record {
@@ -143,9 +143,9 @@ run_listed {f} {st} {last} {buf} {out} (filter ys ∷ xs) h e run =
       some = λ k. absurd (omega arith);
       turns = ap (λ zs. filter ys ∷ zs) more.turns;
     }
-run_listed {f} {st} {last} {buf} {out} (info p ∷ xs) h e run = absurd (omega (arith, (run_order run).0))
-run_listed {f} {st} {last} {buf} {out} (format y ∷ xs) h e run = absurd (omega (arith, (run_order run).0))
-run_listed {f} {st} {last} {buf} {out} (end ∷ xs) h e run = absurd (omega (arith, (run_order run).0))
+run_listed {f} {last} {out} (info p ∷ xs) {st} {buf} h e run = absurd (omega (arith, (run_order run).0))
+run_listed {f} {last} {out} (format y ∷ xs) {st} {buf} h e run = absurd (omega (arith, (run_order run).0))
+run_listed {f} {last} {out} (end ∷ xs) {st} {buf} h e run = absurd (omega (arith, (run_order run).0))
 
 run_identified : {f : Facts} {st last : Builder} {buf out : List ℕ} (xs : List Turn) → rank st.stage ≡ 1 → rank last.stage ≡ 7
     → Run f st buf xs last out → Identified xs

@@ -59,7 +59,7 @@ alleles_run {f} {start} {s} {whole} {a} {i} {keys} (x ∷ xs) o k c r run =
     let n : a + suc (length xs) ≡ a + 1 + length xs = omega arith in
     let r' : Fits start (whole ++ text_bytes x ++ joined text_bytes xs) = rw e at r in
     allele_run o k.0 (omega arith) (fits_front start (whole ++ text_bytes x) (joined text_bytes xs) r')
-    (alleles_run xs (omega arith, omega arith) k.1 (omega arith) r' (rw (e, n) at run))
+    (alleles_run {s = Alleles} xs (omega arith, omega arith) k.1 (omega arith) r' (rw (e, n) at run))
 
 pub alleles_back : {f : Facts} {start : List ℕ} {s : Stage} {whole : List ℕ} {a i : ℕ} {keys : List ℕ}
     {rest : List Turn} {last : Builder} {out : List ℕ}
@@ -74,7 +74,7 @@ alleles_back {f} {start} {s} {whole} {a} {i} {keys} (x ∷ xs) t c r run =
     let n : a + suc (length xs) ≡ a + 1 + length xs = omega arith in
     let one = allele_back t.0 run in
     let d = one.1 in
-    let more = alleles_back xs t.1 (omega arith) one.2 one.3 in
+    let more = alleles_back {s = Alleles} xs t.1 (omega arith) one.2 one.3 in
     ((one.0, more.0), rw n more.1, rw e more.2, rw (e, n) more.3)
 
 -- INFO pairs
@@ -90,7 +90,7 @@ infos_run {f} {start} {s} {whole} {a} {i} {keys} (x ∷ xs) o k c r run =
     let n : i + suc (length xs) ≡ i + 1 + length xs = omega arith in
     let r' : Fits start (whole ++ info_bytes x ++ joined info_bytes xs) = rw e at r in
     info_run o k.0 (omega arith) (fits_front start (whole ++ info_bytes x) (joined info_bytes xs) r')
-    (infos_run xs (omega arith, omega arith) k.1 (omega arith) r' (rw (e, n) at run))
+    (infos_run {s = Infos} xs (omega arith, omega arith) k.1 (omega arith) r' (rw (e, n) at run))
 
 pub infos_back : {f : Facts} {start : List ℕ} {s : Stage} {whole : List ℕ} {a i : ℕ} {keys : List ℕ}
     {rest : List Turn} {last : Builder} {out : List ℕ}
@@ -105,7 +105,7 @@ infos_back {f} {start} {s} {whole} {a} {i} {keys} (x ∷ xs) t c r run =
     let n : i + suc (length xs) ≡ i + 1 + length xs = omega arith in
     let one = info_back t.0 run in
     let d = one.1 in
-    let more = infos_back xs t.1 (omega arith) one.2 one.3 in
+    let more = infos_back {s = Infos} xs t.1 (omega arith) one.2 one.3 in
     ((one.0, more.0), rw n more.1, rw e more.2, rw (e, n) more.3)
 
 -- FORMAT fields
@@ -127,7 +127,7 @@ formats_run {f} {start} {s} {border} {whole} {a} {i} {keys} (x ∷ xs) o p k c r
     let l = keys_on keys x.key in
     let r' : Fits start (whole ++ format_bytes x ++ joined format_bytes xs) = rw e at r in
     format_run o people k.0 (omega arith) (fits_front start (whole ++ format_bytes x) (joined format_bytes xs) r')
-    (formats_run xs (omega arith, omega arith) (λ _. people) k.1 (omega arith) r' (rw (e, n) at run))
+    (formats_run {s = Formats} xs (omega arith, omega arith) (λ _. people) k.1 (omega arith) r' (rw (e, n) at run))
 
 pub formats_back : {f : Facts} {start : List ℕ} {s : Stage} {border : ℕ} {whole : List ℕ} {a i : ℕ} {keys : List ℕ}
     {rest : List Turn} {last : Builder} {out : List ℕ}
@@ -144,7 +144,7 @@ formats_back {f} {start} {s} {border} {whole} {a} {i} {keys} (x ∷ xs) t c r ru
     let l = keys_on keys x.key in
     let one = format_back t.0 run in
     let d = one.2 in
-    let more = formats_back xs t.1 (omega arith) one.3 one.4 in
+    let more = formats_back {s = Formats} xs t.1 (omega arith) one.3 one.4 in
     let m = more.2 in
     ((one.0, more.0), λ _. one.1, omega arith, rw e more.3, rw (e, n) more.4)
 

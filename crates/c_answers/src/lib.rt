@@ -1,6 +1,8 @@
 // An answer told to a caller of another language: one u64 with a refusal's number in its high half and, in its low half, the refusal's
 // place or, with number 0, a length; and what an accepted answer holds, as numbers in a lent slice. And back: the site that reading's numbers
 // hold. Rests on the answers of reading, fetching, showing, tallying, choosing, printing and walking.
+#![tactic(auto)]
+
 ghost use Rattle.std.specs.Prelude.{◌≡◌, ◌-◌, length};
 ghost use Rattle.stores.specs.Stores.{filled};
 ghost use Rattle.c_answers.specs.Told.{answer, refused_answer, told_answer, site_told, empty_site, reading_answer, reading_numbers, found_answer, found_numbers, pair_answer, pair_numbers, opening_answer, shown_answer, tallied_answer, tallied_numbers, counting_answer, counting_numbers, choosing_answer, line_number};

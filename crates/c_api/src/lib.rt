@@ -1,6 +1,8 @@
 // The functions that other languages call, by the C calling convention: numbers and lent slices in, one u64 out. Its high half is the number of
 // a refusal; its low half is the refusal's place or, with number 0, a length. A refusal writes nothing. Rests on c_answers for answers and on
 // c_state for the state of a build; the format's rules are in the crates below.
+#![tactic(auto)]
+
 ghost use Rattle.std.specs.Prelude.{◌≡◌, map, length};
 ghost use Rattle.std.specs.Int.{w32};
 ghost use Rattle.std.proofs.Common.{of_z};

@@ -1,5 +1,7 @@
 // A build's state as 266 numbers that a caller of another language keeps between turns, and what a turn tells and leaves there.
 // Rests on build for the state and on c_answers for answers.
+#![tactic(auto)]
+
 ghost use Rattle.std.specs.Prelude.{◌≡◌, length};
 ghost use Rattle.stores.specs.Stores.{filled};
 ghost use Rattle.c_state.specs.Kept.{stage_of, state_numbers, no_state, state_of, turn_answer, turn_numbers, fresh_answer, fresh_numbers};

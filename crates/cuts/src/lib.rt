@@ -1,6 +1,8 @@
 // What the cutting program says of one line: the chosen record's whole text, into a lent buffer; the first line of the release; and its step from
 // line to line.
 // Rests on choose for the chosen record, on capitals for its text, and on frames for the text of what is refused.
+#![tactic(auto)]
+
 ghost use Rattle.std.specs.Prelude.{◌≡◌, ◌+◌, ◌≤◌, length, take};
 ghost use Rattle.std.proofs.lemmas.List.Edits.{sets};
 ghost use Rattle.frames.specs.Frames.{TextInside};

@@ -1,1 +1,2 @@
 // What holds of reading and of what an accepted record shows: no code.
+#![tactic(auto)]
