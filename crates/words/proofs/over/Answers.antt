@@ -2,7 +2,6 @@
 use mathlib.Core.Path.{refl}
 use native.Mathlib.Omega.{arith}
 use native.Mathlib.Nat.{div-zero, zero-mul, div-mul-le_self}
-use borrow.Author.Rules.{rules}
 use Rattle.words.proofs.over.Goals as goal
 
 -- `words::over` meets its contract.

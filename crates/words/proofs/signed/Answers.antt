@@ -1,5 +1,4 @@
 -- `words::signed` meets its contract. Bits with the sign bit set go by way of 64 bits: laws of proofs/Sign.
-use borrow.Author.Rules.{rules}
 use native.Mathlib.Omega.{arith}
 use Rattle.words.proofs.Sign.{less, high, negative_64, negative_32}
 use Rattle.words.proofs.signed.Goals as goal

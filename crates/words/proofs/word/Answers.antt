@@ -1,7 +1,6 @@
 -- `words::word` meets its contract. Each length is `number_four`, with 0 for the bytes that are not there.
 use native.Mathlib.Omega.{arith}
 use Rattle.words.proofs.Words.{number_four, past}
-use borrow.Author.Rules.{rules}
 use Rattle.words.proofs.word.Goals as goal
 
 pub returns-then-part-eq1 : goal.returns-then-part-eq1

@@ -2,7 +2,6 @@
 use native.Mathlib.Omega.{arith}
 use native.Mathlib.Nat.{add-sub_cancel_left}
 use Rattle.words.proofs.Words.{number_past, number_rest}
-use borrow.Author.Rules.{rules}
 use Rattle.words.proofs.word_at.Goals as goal
 
 -- `words::word_at` meets its contract. By where the slice ends: laws `number_past`, `number_rest`.
