@@ -8,7 +8,6 @@ use Rattle.build.specs.declared.Stage.TheVariants.{Alleles}
 use Rattle.build_append.proofs.Writing.{written_room, written_rules}
 use Rattle.build.proofs.Answers.{site_answer, after_written}
 use Rattle.build_rules.proofs.Numbers.{count_below}
-use borrow.Author.Rules.{rules}
 use Rattle.build.proofs.allele.Goals as goal
 
 pub site_turn-requires : goal.site_turn-requires

@@ -10,7 +10,6 @@ use Rattle.build.specs.Turns.{begin_number, begun, after_begin}
 use Rattle.build_front.proofs.Fronts.{front_room}
 use Rattle.build_rules.proofs.Numbers.{begin_room}
 use Rattle.build.proofs.Numbers.{turned_refused}
-use borrow.Author.Rules.{rules}
 use Rattle.build.proofs.begin.Goals as goal
 
 pub returns-then-number-eq0 : goal.returns-then-number-eq0

@@ -6,7 +6,6 @@ use Rattle.build.specs.Turns.{filled_in, end_number, built, after_end}
 use Rattle.build_rules.specs.Rules.{wrong_end}
 use Rattle.build_rules.proofs.Numbers.{end_room}
 use Rattle.build.proofs.Numbers.{turned_refused}
-use borrow.Author.Rules.{rules}
 use Rattle.build.proofs.end.Goals as goal
 
 pub returns-then-number-eq0 : goal.returns-then-number-eq0

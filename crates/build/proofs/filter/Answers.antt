@@ -10,7 +10,6 @@ use Rattle.build.specs.Turns.{filter_rules, filter_given, after_filter}
 use Rattle.build.specs.declared.Stage.TheVariants.{Filtered}
 use Rattle.build_append.proofs.Writing.{written_room}
 use Rattle.build.proofs.Answers.{site_answer, after_written}
-use borrow.Author.Rules.{rules}
 use Rattle.build.proofs.filter.Goals as goal
 
 pub site_turn-requires : goal.site_turn-requires

@@ -4,7 +4,6 @@ use native.Mathlib.Omega.{arith}
 use lib.ListN.{length}
 use lib.Seq.{length-take-le}
 use Rattle.build.specs.Turns.{format_front}
-use borrow.Author.Rules.{rules}
 use Rattle.build.proofs.format_number.Goals as goal
 
 pub slice_bounds-keys-end : goal.slice_bounds-keys-end

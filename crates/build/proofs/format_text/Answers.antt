@@ -8,7 +8,6 @@ use Rattle.build.specs.Values.{given_number}
 use Rattle.build.specs.Turns.{format_given, after_format}
 use Rattle.build_append.proofs.Writing.{written_room, written_rules}
 use Rattle.build.proofs.Answers.{plain_number, format_below, pair_eq, format_answer, after_written}
-use borrow.Author.Rules.{rules}
 use Rattle.build.proofs.format_text.Goals as goal
 
 pub format_turn-requires : goal.format_turn-requires

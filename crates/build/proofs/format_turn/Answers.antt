@@ -1,7 +1,6 @@
 -- `build::format_turn` meets its contract.
 use mathlib.Core.Path.{◌∙◌}
 use Rattle.build.proofs.Numbers.{turned_refused}
-use borrow.Author.Rules.{rules}
 use Rattle.build.proofs.format_turn.Goals as goal
 
 pub with_format-requires : goal.with_format-requires

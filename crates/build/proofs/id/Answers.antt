@@ -7,7 +7,6 @@ use Rattle.build.specs.Turns.{id_number, id_given, after_id}
 use Rattle.build.specs.declared.Stage.TheVariants.{Named}
 use Rattle.build_append.proofs.Writing.{written_room}
 use Rattle.build.proofs.Answers.{site_answer, after_written}
-use borrow.Author.Rules.{rules}
 use Rattle.build.proofs.id.Goals as goal
 
 pub site_turn-requires : goal.site_turn-requires

@@ -13,7 +13,6 @@ use Rattle.build.specs.Turns.{info_given, after_info}
 use Rattle.build.specs.declared.Stage.TheVariants.{Infos}
 use Rattle.build_append.proofs.Writing.{written_room, written_rules}
 use Rattle.build.proofs.Answers.{info_number, info_below, pair_eq, site_answer, after_written}
-use borrow.Author.Rules.{rules}
 use Rattle.build.proofs.info_integers.Goals as goal
 
 pub site_turn-requires : goal.site_turn-requires

@@ -1,6 +1,5 @@
 -- `build::info_key` meets its contract.
 use Rattle.build.specs.Turns.{info_key}
-use borrow.Author.Rules.{rules}
 use Rattle.build.proofs.info_key.Goals as goal
 
 pub returns : goal.returns

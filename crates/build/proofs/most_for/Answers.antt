@@ -4,7 +4,6 @@ use native.Mathlib.Omega.{arith}
 use borrow.Author.Tests.{lt-ltb, eq-eqb, ne_eqb}
 use Rattle.vectors.specs.Sound.{code_most, highest}
 use Rattle.genotypes.specs.Formats.{role_of}
-use borrow.Author.Rules.{rules}
 use Rattle.build.proofs.most_for.Goals as goal
 
 pub returns-then-key-gt : goal.returns-then-key-gt

@@ -2,7 +2,6 @@
 use mathlib.Core.Path.{◌∙◌}
 use native.Mathlib.Omega.{arith}
 use Rattle.build.proofs.Numbers.{turned_refused}
-use borrow.Author.Rules.{rules}
 use Rattle.build.proofs.site_turn.Goals as goal
 
 pub overflow_cast-stop : goal.overflow_cast-stop

@@ -1,7 +1,6 @@
 -- `build_append::append_number` meets its contract.
 use mathlib.Core.Path.{refl}
 use Rattle.build_append.proofs.Numbers.{first_eq}
-use borrow.Author.Rules.{rules}
 use Rattle.build_append.proofs.append_number.Goals as goal
 
 pub returns : goal.returns

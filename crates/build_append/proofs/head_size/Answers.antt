@@ -1,5 +1,4 @@
 -- `build_append::head_size` meets its contract.
-use borrow.Author.Rules.{rules}
 use Rattle.build_append.proofs.head_size.Goals as goal
 
 pub returns-in-Info : goal.returns-in-Info

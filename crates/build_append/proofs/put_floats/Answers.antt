@@ -1,7 +1,6 @@
 -- `build_append::put_floats` meets its contract.
 use mathlib.Core.Path.{◌∙◌}
 use Rattle.build_append.proofs.Values.{value_stored}
-use borrow.Author.Rules.{rules}
 use Rattle.build_append.proofs.put_floats.Goals as goal
 
 pub returns : goal.returns

@@ -1,6 +1,5 @@
 -- `build_append::put_head` meets its contract.
 use Rattle.build_append.proofs.Writing.{filled_none}
-use borrow.Author.Rules.{rules}
 use Rattle.build_append.proofs.put_head.Goals as goal
 
 pub returns-in-Alone : goal.returns-in-Alone

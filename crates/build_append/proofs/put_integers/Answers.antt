@@ -4,7 +4,6 @@ use mathlib.Core.Path.{◌∙◌}
 use mir.Syntax.{w32}
 use mir.Val.{of_z}
 use Rattle.build_append.proofs.Values.{value_stored}
-use borrow.Author.Rules.{rules}
 use Rattle.build_append.proofs.put_integers.Goals as goal
 
 pub returns : goal.returns

@@ -2,7 +2,6 @@
 use mathlib.Core.Path.{◌∙◌}
 use Rattle.shown.specs.Values.{given_bytes}
 use Rattle.build_append.proofs.Values.{text_stored}
-use borrow.Author.Rules.{rules}
 use Rattle.build_append.proofs.put_text.Goals as goal
 
 pub returns : goal.returns

@@ -3,7 +3,6 @@ use Prim.Native.Nat.{◌+◌, ◌<◌}
 use native.Mathlib.Omega.{arith}
 use borrow.Author.Tests.{lt-ltb, le-ltb}
 use Rattle.build_append.specs.Append.{room_number}
-use borrow.Author.Rules.{rules}
 use Rattle.build_append.proofs.room_number.Goals as goal
 
 pub returns-then-size-gt-MOST : goal.returns-then-size-gt-MOST

@@ -1,7 +1,6 @@
 -- `build_front::fields_number` meets its contract.
 use borrow.Author.Tests.{le-leb, le-ltb, lt-leb, lt-ltb}
 use Rattle.build_front.specs.Front.{fields_number}
-use borrow.Author.Rules.{rules}
 use Rattle.build_front.proofs.fields_number.Goals as goal
 
 pub returns-then-is_outside : goal.returns-then-is_outside

@@ -2,7 +2,6 @@
 use mathlib.Core.Path.{◌∙◌}
 use borrow.Author.Tests.{lt-ltb, le-ltb}
 use Rattle.build_front.proofs.Fronts.{fields_stored}
-use borrow.Author.Rules.{rules}
 use Rattle.build_front.proofs.fill_in.Goals as goal
 
 pub returns-then-buf-lt-FILLED : goal.returns-then-buf-lt-FILLED

@@ -1,7 +1,6 @@
 -- `build_front::put_front` meets its contract.
 use mathlib.Core.Path.{◌∙◌, sym}
 use Rattle.build_front.proofs.Fronts.{front_stored, front_room, front_short}
-use borrow.Author.Rules.{rules}
 use Rattle.build_front.proofs.put_front.Goals as goal
 
 pub returns-then-buf-lt-ID : goal.returns-then-buf-lt-ID

@@ -1,12 +1,8 @@
 -- `build_given::floats_in` meets its contract. The loop's invariant: the vector is judged as what is left of it.
-use mathlib.Core.Path.{◌≡◌, ◌∙◌, sym}
+use mathlib.Core.Path.{◌∙◌, sym}
 use mathlib.Core.Bool.{false}
-use Prim.Native.Nat.{◌-◌, ◌≤◌}
 use native.Mathlib.Omega.{arith}
-use lib.ListN.{length, drop}
-use Rattle.vectors.specs.Vectors.{vector}
 use Rattle.build_given.proofs.Turns.{vector_turn, vector_end}
-use borrow.Author.Rules.{rules}
 use Rattle.build_given.proofs.floats_in.Goals as goal
 
 pub returns-in_default : goal.returns-in_default

@@ -1,15 +1,13 @@
 -- `build_given::floats_in_turn` meets its contract. The loop's invariant: the elements are judged as the vectors that are left, and those are there.
 use mathlib.Core.Path.{◌≡◌, ◌∙◌}
 use mathlib.Core.Bool.{false}
-use Prim.Native.Nat.{◌+◌, ◌-◌, ◌*◌, ◌≤◌}
 use native.Mathlib.Omega.{arith}
 use native.Mathlib.Nat.{add-sub_cancel_left}
-use lib.ListN.{length, take, drop}
+use lib.ListN.{take, drop}
 use Rattle.values.proofs.Room.{room}
 use Rattle.vectors.specs.Vectors.{vector}
 use Rattle.build_given.specs.Given.{number_of, vectors_given, elements_number}
 use Rattle.build_given.proofs.Turns.{vectors_turn}
-use borrow.Author.Rules.{rules}
 use Rattle.build_given.proofs.floats_in_turn.Goals as goal
 
 pub loop-left-init : goal.loop-left-init

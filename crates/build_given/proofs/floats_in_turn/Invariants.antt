@@ -1,18 +1,10 @@
 -- `build_given::floats_in_turn` meets its contract. The loop's invariant: the elements are judged as the vectors that are left, and those are there.
-use mathlib.Core.Path.{◌≡◌, ◌∙◌}
-use mathlib.Core.Bool.{false}
-use Prim.Native.Nat.{◌+◌, ◌-◌, ◌*◌, ◌≤◌}
-use native.Mathlib.Omega.{arith}
-use native.Mathlib.Nat.{add-sub_cancel_left}
-use lib.ListN.{length, take, drop}
-use Rattle.values.proofs.Room.{room}
-use Rattle.vectors.specs.Vectors.{vector}
+use mathlib.Core.Path.{◌≡◌}
+use Prim.Native.Nat.{◌+◌, ◌*◌, ◌≤◌}
+use lib.ListN.{length, drop}
 use Rattle.build_given.specs.Given.{number_of, vectors_given, elements_number}
-use Rattle.build_given.proofs.Turns.{vectors_turn}
-use borrow.Author.Rules.{rules}
 use Rattle.build_given.proofs.floats_in_turn.Given as goal
 
--- `build_given::floats_in_turn` meets its contract. The loop's invariant: the elements are judged as the vectors that are left, and those are there.
 abbrev pub invariant-loop-left : goal.invariant-loop-left
 invariant-loop-left l =
     (elements_number 0xFFFFFFFF 5 l.len l.bits ≡ number_of (vectors_given 0xFFFFFFFF 5 l.len l.left (drop l.at l.bits))) × (l.at + l.left * l.len ≤ length l.bits)

@@ -1,12 +1,7 @@
 -- `build_given::floats_pass` meets its contract. The loop's invariant: all pass where those before the place did and those left do.
-use mathlib.Core.Path.{◌≡◌, ◌∙◌, sym}
-use mathlib.Core.Bool.{◌&&◌}
-use Prim.Native.Nat.{◌-◌, ◌≤◌}
+use mathlib.Core.Path.{◌∙◌, sym}
 use native.Mathlib.Omega.{arith}
-use lib.ListN.{length, drop}
-use Rattle.vectors.specs.Engine.{all_passed}
 use Rattle.build_given.proofs.Plain.{sweep_turn, sweep_end}
-use borrow.Author.Rules.{rules}
 use Rattle.build_given.proofs.floats_pass.Goals as goal
 
 pub loop-i-preserved : goal.loop-i-preserved

@@ -2,17 +2,15 @@
 use mathlib.Core.Path.{◌≡◌, ◌∙◌, sym}
 use mathlib.Core.List.{map}
 use mathlib.Core.Bool.{false}
-use Prim.Native.Nat.{◌-◌, ◌≤◌}
 use native.Mathlib.Omega.{arith}
 use lib.IntN.{pos}
-use lib.ListN.{length, drop, get_or, length-map}
+use lib.ListN.{get_or, length-map}
 use mir.Syntax.{w32}
 use mir.Val.{of_z}
 use Rattle.words.proofs.Sign.{bits_back}
 use Rattle.types.specs.Elements.{kind}
-use Rattle.vectors.specs.Vectors.{element_turn, vector}
+use Rattle.vectors.specs.Vectors.{element_turn}
 use Rattle.build_given.proofs.Turns.{vector_turn_bits, vector_end}
-use borrow.Author.Rules.{rules}
 use Rattle.build_given.proofs.integers_in.Goals as goal
 
 pub returns-in_default : goal.returns-in_default

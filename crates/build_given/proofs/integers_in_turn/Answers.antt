@@ -2,10 +2,9 @@
 use mathlib.Core.Path.{◌≡◌, ◌∙◌}
 use mathlib.Core.List.{map}
 use mathlib.Core.Bool.{false}
-use Prim.Native.Nat.{◌+◌, ◌-◌, ◌*◌, ◌≤◌}
 use native.Mathlib.Omega.{arith}
 use native.Mathlib.Nat.{add-sub_cancel_left}
-use lib.ListN.{length, take, drop, length-map}
+use lib.ListN.{take, drop, length-map}
 use mir.Syntax.{w32}
 use mir.Val.{of_z}
 use Rattle.values.proofs.Room.{room}
@@ -13,7 +12,6 @@ use Rattle.vectors.specs.Vectors.{vector}
 use Rattle.build_given.specs.Given.{number_of, vectors_given, elements_number}
 use Rattle.repeats.proofs.Lists.{map_part}
 use Rattle.build_given.proofs.Turns.{vectors_turn, map_rest}
-use borrow.Author.Rules.{rules}
 use Rattle.build_given.proofs.integers_in_turn.Goals as goal
 
 pub loop-left-init : goal.loop-left-init

@@ -1,17 +1,14 @@
 -- `build_given::integers_pass` meets its contract. The loop's invariant: all pass where those before the place did and those left do.
 use mathlib.Core.Path.{◌≡◌, ◌∙◌, sym}
 use mathlib.Core.List.{map}
-use mathlib.Core.Bool.{◌&&◌}
-use Prim.Native.Nat.{◌-◌, ◌≤◌}
 use native.Mathlib.Omega.{arith}
 use lib.IntN.{pos}
-use lib.ListN.{length, drop, get_or, length-map}
+use lib.ListN.{get_or, length-map}
 use mir.Syntax.{w32}
 use mir.Val.{of_z}
 use Rattle.words.proofs.Sign.{bits_back}
-use Rattle.vectors.specs.Engine.{passed, all_passed}
+use Rattle.vectors.specs.Engine.{passed}
 use Rattle.build_given.proofs.Plain.{sweep_turn_bits, sweep_end}
-use borrow.Author.Rules.{rules}
 use Rattle.build_given.proofs.integers_pass.Goals as goal
 
 pub loop-i-preserved : goal.loop-i-preserved

@@ -1,7 +1,6 @@
 -- `build_given::judge_allele` meets its contract.
 use mathlib.Core.Path.{◌∙◌}
 use Rattle.build_given.specs.Given.{allele_number}
-use borrow.Author.Rules.{rules}
 use Rattle.build_given.proofs.judge_allele.Goals as goal
 
 pub returns : goal.returns

@@ -3,7 +3,6 @@ use mathlib.Core.Path.{◌∙◌, sym}
 use lib.Seq.{length-take-le}
 use borrow.Author.Tests.{lt-ltb, le-ltb}
 use Rattle.build_given.proofs.Filters.{filters_number_by}
-use borrow.Author.Rules.{rules}
 use Rattle.build_given.proofs.judge_filters.Goals as goal
 
 pub slice_bounds-first_integer_repeat-end : goal.slice_bounds-first_integer_repeat-end

@@ -1,7 +1,6 @@
 -- `build_given::judge_floats` meets its contract.
 use mathlib.Core.Path.{◌∙◌, sym}
 use Rattle.build_given.proofs.Plain.{floats_on}
-use borrow.Author.Rules.{rules}
 use Rattle.build_given.proofs.judge_floats.Goals as goal
 
 pub returns-then-floats_pass : goal.returns-then-floats_pass

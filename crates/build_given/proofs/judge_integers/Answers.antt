@@ -1,7 +1,6 @@
 -- `build_given::judge_integers` meets its contract.
 use mathlib.Core.Path.{◌∙◌, sym}
 use Rattle.build_given.proofs.Plain.{integers_on}
-use borrow.Author.Rules.{rules}
 use Rattle.build_given.proofs.judge_integers.Goals as goal
 
 pub returns-then-integers_pass : goal.returns-then-integers_pass

@@ -1,7 +1,6 @@
 -- `build_given::judge_text` meets its contract.
 use mathlib.Core.Path.{◌∙◌}
 use Rattle.build_given.proofs.Text.{text_number}
-use borrow.Author.Rules.{rules}
 use Rattle.build_given.proofs.judge_text.Goals as goal
 
 pub returns : goal.returns

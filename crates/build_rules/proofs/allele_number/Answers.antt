@@ -1,7 +1,6 @@
 -- `build_rules::allele_number` meets its contract.
 use Rattle.build_append.proofs.Numbers.{first_eq}
 use Rattle.build_rules.specs.Rules.{wrong_allele}
-use borrow.Author.Rules.{rules}
 use Rattle.build_rules.proofs.allele_number.Goals as goal
 
 pub returns : goal.returns

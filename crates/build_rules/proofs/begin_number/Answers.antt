@@ -1,6 +1,5 @@
 -- `build_rules::begin_number` meets its contract.
 use Rattle.build_rules.specs.Rules.{wrong_begin}
-use borrow.Author.Rules.{rules}
 use Rattle.build_rules.proofs.begin_number.Goals as goal
 
 pub returns : goal.returns

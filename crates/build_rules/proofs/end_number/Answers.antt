@@ -1,6 +1,5 @@
 -- `build_rules::end_number` meets its contract.
 use Rattle.build_rules.specs.Rules.{wrong_end}
-use borrow.Author.Rules.{rules}
 use Rattle.build_rules.proofs.end_number.Goals as goal
 
 pub returns : goal.returns

@@ -1,7 +1,6 @@
 -- `build_rules::filter_number` meets its contract.
 use Rattle.build_append.proofs.Numbers.{first_eq}
 use Rattle.build_rules.specs.Rules.{wrong_filter}
-use borrow.Author.Rules.{rules}
 use Rattle.build_rules.proofs.filter_number.Goals as goal
 
 pub returns : goal.returns

@@ -1,6 +1,5 @@
 -- `build_rules::format_count` meets its contract.
 use Rattle.build_rules.specs.Rules.{format_order}
-use borrow.Author.Rules.{rules}
 use Rattle.build_rules.proofs.format_count.Goals as goal
 
 pub returns : goal.returns

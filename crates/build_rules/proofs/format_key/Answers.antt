@@ -1,6 +1,5 @@
 -- `build_rules::format_key` meets its contract.
 use Rattle.build_rules.specs.Rules.{format_key}
-use borrow.Author.Rules.{rules}
 use Rattle.build_rules.proofs.format_key.Goals as goal
 
 pub returns : goal.returns

@@ -1,7 +1,6 @@
 -- `build_rules::format_number` meets its contract.
 use Rattle.build_append.proofs.Numbers.{first_eq}
 use Rattle.build_rules.specs.Rules.{wrong_format}
-use borrow.Author.Rules.{rules}
 use Rattle.build_rules.proofs.format_number.Goals as goal
 
 pub returns : goal.returns

@@ -1,6 +1,5 @@
 -- `build_rules::format_shape` meets its contract.
 use Rattle.build_rules.specs.Rules.{format_shape}
-use borrow.Author.Rules.{rules}
 use Rattle.build_rules.proofs.format_shape.Goals as goal
 
 pub returns : goal.returns

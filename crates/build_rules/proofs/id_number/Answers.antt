@@ -2,7 +2,6 @@
 use Rattle.build_rules.specs.Values.{given_number}
 use Rattle.build_append.proofs.Numbers.{first_eq}
 use Rattle.build_rules.specs.Rules.{wrong_id}
-use borrow.Author.Rules.{rules}
 use Rattle.build_rules.proofs.id_number.Goals as goal
 
 pub returns : goal.returns

@@ -1,6 +1,5 @@
 -- `build_rules::info_number` meets its contract.
 use Rattle.build_rules.specs.Rules.{wrong_info}
-use borrow.Author.Rules.{rules}
 use Rattle.build_rules.proofs.info_number.Goals as goal
 
 pub returns : goal.returns

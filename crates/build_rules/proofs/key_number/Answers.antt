@@ -1,6 +1,5 @@
 -- `build_rules::key_number` meets its contract.
 use Rattle.build_rules.specs.Rules.{key_number}
-use borrow.Author.Rules.{rules}
 use Rattle.build_rules.proofs.key_number.Goals as goal
 
 pub returns-then-is_outside : goal.returns-then-is_outside

@@ -1,6 +1,5 @@
 -- `build_rules::repeat_number` meets its contract.
 use Rattle.build_rules.specs.Rules.{repeat_number}
-use borrow.Author.Rules.{rules}
 use Rattle.build_rules.proofs.repeat_number.Goals as goal
 
 pub returns-then-is_repeated : goal.returns-then-is_repeated

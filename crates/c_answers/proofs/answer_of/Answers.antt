@@ -1,7 +1,6 @@
 -- `c_answers::answer_of` meets its contract.
 use mathlib.Core.Path.{refl}
 use Rattle.c_answers.specs.Told.{answer}
-use borrow.Author.Rules.{rules}
 use Rattle.c_answers.proofs.answer_of.Goals as goal
 
 pub returns : goal.returns

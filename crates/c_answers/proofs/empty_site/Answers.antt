@@ -1,5 +1,4 @@
 -- `c_answers::empty_site` meets its contract.
-use borrow.Author.Rules.{rules}
 use Rattle.c_answers.proofs.empty_site.Goals as goal
 
 pub returns : goal.returns

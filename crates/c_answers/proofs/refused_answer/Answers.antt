@@ -1,6 +1,5 @@
 -- `c_answers::refused_answer` meets its contract.
 use Rattle.c_answers.specs.Told.{refused_answer}
-use borrow.Author.Rules.{rules}
 use Rattle.c_answers.proofs.refused_answer.Goals as goal
 
 pub returns : goal.returns

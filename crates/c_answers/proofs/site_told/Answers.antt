@@ -1,7 +1,6 @@
 -- `c_answers::site_told` meets its contract.
 use borrow.Author.Tests.{le-ltb, lt-ltb}
 use Rattle.c_answers.specs.Told.{site_told}
-use borrow.Author.Rules.{rules}
 use Rattle.c_answers.proofs.site_told.Goals as goal
 
 pub returns-then-numbers-lt13 : goal.returns-then-numbers-lt13

@@ -1,7 +1,6 @@
 -- `c_answers::tell` meets its contract.
 use mathlib.Core.Path.{◌∙◌, sym}
 use Rattle.c_answers.proofs.Room.{told_short, told_room}
-use borrow.Author.Rules.{rules}
 use Rattle.c_answers.proofs.tell.Goals as goal
 
 pub returns-then-room-numbers : goal.returns-then-room-numbers

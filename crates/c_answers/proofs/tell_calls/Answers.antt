@@ -1,14 +1,13 @@
 -- `c_answers::tell_calls` meets its contract.
 use mathlib.Core.Path.{◌≡◌, ◌∙◌, sym, refl, ap}
-use mathlib.Core.List.{List, [], ◌∷◌, ◌++◌}
+use mathlib.Core.List.{List, ◌∷◌, ◌++◌}
 use native.Mathlib.Omega.{arith}
 use Prim.Native.Nat.{ℕ, ◌+◌, ◌<◌, ◌≤◌}
-use lib.ListN.{length, length-map}
+use lib.ListN.{length}
 use Rattle.stores.specs.Stores.{filled}
 use Rattle.stores.proofs.Room.{filled_short, filled_room, filled_append}
 use Rattle.c_answers.specs.Told.{tally_numbers}
 use Rattle.c_answers.proofs.Room.{told_short, told_room}
-use borrow.Author.Rules.{rules}
 use Rattle.c_answers.proofs.tell_calls.Goals as goal
 
 pub returns-then-out-lt68 : goal.returns-then-out-lt68

@@ -1,5 +1,4 @@
 -- `c_answers::tell_choosing` meets its contract.
-use borrow.Author.Rules.{rules}
 use Rattle.c_answers.proofs.tell_choosing.Goals as goal
 
 pub returns-in-Chosen : goal.returns-in-Chosen

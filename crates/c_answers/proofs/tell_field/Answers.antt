@@ -1,7 +1,6 @@
 -- `c_answers::tell_field` meets its contract.
 use mathlib.Core.Path.{◌∙◌, ap}
 use Rattle.c_answers.specs.Told.{told_answer}
-use borrow.Author.Rules.{rules}
 use Rattle.c_answers.proofs.tell_field.Goals as goal
 
 pub returns : goal.returns

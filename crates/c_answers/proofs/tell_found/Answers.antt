@@ -1,5 +1,4 @@
 -- `c_answers::tell_found` meets its contract.
-use borrow.Author.Rules.{rules}
 use Rattle.c_answers.proofs.tell_found.Goals as goal
 
 pub returns-in-Field : goal.returns-in-Field

@@ -1,5 +1,4 @@
 -- `c_answers::tell_line` meets its contract.
-use borrow.Author.Rules.{rules}
 use Rattle.c_answers.proofs.tell_line.Goals as goal
 
 pub returns-in-Written : goal.returns-in-Written

@@ -1,5 +1,4 @@
 -- `c_answers::tell_opening` meets its contract.
-use borrow.Author.Rules.{rules}
 use Rattle.c_answers.proofs.tell_opening.Goals as goal
 
 pub returns-in-First : goal.returns-in-First

@@ -1,5 +1,4 @@
 -- `c_answers::tell_pair` meets its contract.
-use borrow.Author.Rules.{rules}
 use Rattle.c_answers.proofs.tell_pair.Goals as goal
 
 pub returns-in-Found : goal.returns-in-Found

@@ -1,6 +1,5 @@
 -- `c_answers::tell_shown` meets its contract.
 use Rattle.words.proofs.Sign.{bits_back}
-use borrow.Author.Rules.{rules}
 use Rattle.c_answers.proofs.tell_shown.Goals as goal
 
 pub returns-in-Integer : goal.returns-in-Integer

@@ -1,5 +1,4 @@
 -- `c_answers::tell_tally` meets its contract.
-use borrow.Author.Rules.{rules}
 use Rattle.c_answers.proofs.tell_tally.Goals as goal
 
 pub returns-in-Counted : goal.returns-in-Counted

@@ -9,7 +9,6 @@ use Rattle.c_api.specs.Given.{facts_given}
 use Rattle.build.specs.declared.Builder.{Builder}
 use Rattle.build.specs.Turns.{begun, after_begin}
 use Rattle.c_state.specs.Kept.{turn_answer, turn_numbers}
-use borrow.Author.Rules.{rules}
 use Rattle.c_api.proofs.sikalumdo_begin.Goals as goal
 
 pub returns : goal.returns

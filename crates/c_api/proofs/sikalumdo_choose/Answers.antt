@@ -1,7 +1,6 @@
 -- `c_api::sikalumdo_choose` meets its contract.
 use mathlib.Core.Path.{◌∙◌, ap}
 use Rattle.c_answers.specs.Told.{choosing_answer}
-use borrow.Author.Rules.{rules}
 use Rattle.c_api.proofs.sikalumdo_choose.Goals as goal
 
 pub returns : goal.returns

@@ -4,7 +4,6 @@ use lib.ListN.{length}
 use Rattle.build.specs.declared.Builder.{Builder}
 use Rattle.build.specs.Turns.{built, after_end}
 use Rattle.c_state.specs.Kept.{turn_answer, turn_numbers}
-use borrow.Author.Rules.{rules}
 use Rattle.c_api.proofs.sikalumdo_end.Goals as goal
 
 pub returns : goal.returns

@@ -5,7 +5,6 @@ use Rattle.fetch.specs.Fetch.{found}
 use Rattle.fetch.specs.declared.Kind.{Kind}
 use Rattle.c_answers.specs.Told.{found_answer, found_numbers}
 use Rattle.c_api.specs.Given.{facts_given, kind_given}
-use borrow.Author.Rules.{rules}
 use Rattle.c_api.proofs.sikalumdo_fetch.Goals as goal
 
 pub returns : goal.returns

@@ -6,7 +6,6 @@ use Rattle.fetch.specs.Fetch.{field_of}
 use Rattle.fetch.specs.declared.Kind.{Kind}
 use Rattle.c_answers.specs.Told.{site_told, found_answer, found_numbers}
 use Rattle.c_api.specs.Given.{kind_given}
-use borrow.Author.Rules.{rules}
 use Rattle.c_api.proofs.sikalumdo_field_of.Goals as goal
 
 pub returns : goal.returns

@@ -7,7 +7,6 @@ use mir.Val.{of_z}
 use Rattle.build.specs.declared.Builder.{Builder}
 use Rattle.build.specs.Turns.{filter_given, after_filter}
 use Rattle.c_state.specs.Kept.{turn_answer, turn_numbers}
-use borrow.Author.Rules.{rules}
 use Rattle.c_api.proofs.sikalumdo_filter.Goals as goal
 
 pub returns : goal.returns

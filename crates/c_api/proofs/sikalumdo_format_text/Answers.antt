@@ -8,7 +8,6 @@ use Rattle.shown.specs.Shown.{text}
 use Rattle.build.specs.declared.Builder.{Builder}
 use Rattle.build.specs.Turns.{format_given, after_format}
 use Rattle.c_state.specs.Kept.{turn_answer, turn_numbers}
-use borrow.Author.Rules.{rules}
 use Rattle.c_api.proofs.sikalumdo_format_text.Goals as goal
 
 pub returns : goal.returns

@@ -9,7 +9,6 @@ use Rattle.shown.specs.Shown.{integers}
 use Rattle.build.specs.declared.Builder.{Builder}
 use Rattle.build.specs.Turns.{info_given, after_info}
 use Rattle.c_state.specs.Kept.{turn_answer, turn_numbers}
-use borrow.Author.Rules.{rules}
 use Rattle.c_api.proofs.sikalumdo_info_integers.Goals as goal
 
 pub returns : goal.returns

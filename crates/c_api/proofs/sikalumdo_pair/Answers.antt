@@ -1,7 +1,6 @@
 -- `c_api::sikalumdo_pair` meets its contract.
 use mathlib.Core.Path.{◌∙◌, ap}
 use Rattle.c_answers.specs.Told.{pair_answer, pair_numbers}
-use borrow.Author.Rules.{rules}
 use Rattle.c_api.proofs.sikalumdo_pair.Goals as goal
 
 pub returns : goal.returns

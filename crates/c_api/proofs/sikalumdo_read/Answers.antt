@@ -1,7 +1,6 @@
 -- `c_api::sikalumdo_read` meets its contract.
 use mathlib.Core.Path.{◌∙◌, ap}
 use Rattle.c_answers.specs.Told.{reading_answer, reading_numbers}
-use borrow.Author.Rules.{rules}
 use Rattle.c_api.proofs.sikalumdo_read.Goals as goal
 
 pub returns : goal.returns

@@ -1,7 +1,6 @@
 -- `c_api::sikalumdo_tally` meets its contract.
 use mathlib.Core.Path.{◌∙◌, ap}
 use Rattle.c_answers.specs.Told.{tallied_answer, tallied_numbers}
-use borrow.Author.Rules.{rules}
 use Rattle.c_api.proofs.sikalumdo_tally.Goals as goal
 
 pub returns : goal.returns

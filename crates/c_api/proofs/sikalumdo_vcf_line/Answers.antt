@@ -1,7 +1,6 @@
 -- `c_api::sikalumdo_vcf_line` meets its contract.
 use mathlib.Core.Path.{◌∙◌, ap}
 use Rattle.c_answers.specs.Told.{line_number}
-use borrow.Author.Rules.{rules}
 use Rattle.c_api.proofs.sikalumdo_vcf_line.Goals as goal
 
 pub returns : goal.returns

@@ -1,7 +1,6 @@
 -- `c_api::sikalumdo_vcf_pos` meets its contract.
 use mathlib.Core.Path.{◌∙◌}
 use Rattle.words.proofs.Sign.{back}
-use borrow.Author.Rules.{rules}
 use Rattle.c_api.proofs.sikalumdo_vcf_pos.Goals as goal
 
 pub returns : goal.returns

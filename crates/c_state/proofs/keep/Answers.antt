@@ -1,6 +1,5 @@
 -- `c_state::keep` meets its contract.
 use Rattle.c_answers.specs.Told.{refused_answer}
-use borrow.Author.Rules.{rules}
 use Rattle.c_state.proofs.keep.Goals as goal
 
 pub returns-in_default : goal.returns-in_default

@@ -1,14 +1,13 @@
 -- `c_state::keys_of` meets its contract. The loop's invariant: the whole part stored is what is left of it stored from here on.
 use mathlib.Core.Path.{◌≡◌, ◌∙◌, sym, refl}
 use mathlib.Core.List.{List, append-nil}
-use Prim.Native.Nat.{ℕ, ◌+◌, ◌-◌, ◌≤◌}
+use Prim.Native.Nat.{ℕ, ◌+◌, ◌≤◌}
 use native.Mathlib.Omega.{arith}
 use native.Mathlib.Nat.{zero-add}
-use lib.ListN.{length, drop, replicate, length-set, length-replicate}
+use lib.ListN.{length, replicate, length-set, length-replicate}
 use lib.Seq.{sets}
 use Rattle.stores.proofs.Turns.{sets_part, sets_end}
 use Rattle.stores.proofs.Inside.{sets_start}
-use borrow.Author.Rules.{rules}
 use Rattle.c_state.proofs.keys_of.Goals as goal
 
 pub loop-i-init : goal.loop-i-init

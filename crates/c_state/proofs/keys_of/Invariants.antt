@@ -1,17 +1,10 @@
 -- `c_state::keys_of` meets its contract. The loop's invariant: the whole part stored is what is left of it stored from here on.
-use mathlib.Core.Path.{◌≡◌, ◌∙◌, sym, refl}
-use mathlib.Core.List.{List, append-nil}
-use Prim.Native.Nat.{ℕ, ◌+◌, ◌-◌, ◌≤◌}
-use native.Mathlib.Omega.{arith}
-use native.Mathlib.Nat.{zero-add}
-use lib.ListN.{length, drop, replicate, length-set, length-replicate}
+use mathlib.Core.Path.{◌≡◌}
+use Prim.Native.Nat.{◌-◌, ◌≤◌}
+use lib.ListN.{length, drop, replicate}
 use lib.Seq.{sets}
-use Rattle.stores.proofs.Turns.{sets_part, sets_end}
-use Rattle.stores.proofs.Inside.{sets_start}
-use borrow.Author.Rules.{rules}
 use Rattle.c_state.proofs.keys_of.Given as goal
 
--- `c_state::keys_of` meets its contract. The loop's invariant: the whole part stored is what is left of it stored from here on.
 abbrev pub invariant-loop-i : goal.invariant-loop-i
 invariant-loop-i l =
     (sets (replicate 256 0) 0 l.part ≡ sets l.keys l.i (drop l.i l.part)) × (length l.keys ≡ 256) × (l.i ≤ 256)

@@ -4,7 +4,6 @@ use borrow.Author.Tests.{lt-ltb, le-ltb}
 use Rattle.stores.specs.Stores.{filled}
 use Rattle.build.specs.declared.Builder.{Builder}
 use Rattle.c_state.specs.Kept.{state_numbers, fresh_answer, fresh_numbers}
-use borrow.Author.Rules.{rules}
 use Rattle.c_state.proofs.put_fresh.Goals as goal
 
 pub returns-then-room-lt266 : goal.returns-then-room-lt266

@@ -1,13 +1,11 @@
 -- `c_state::put_numbers` meets its contract. The loop's invariant: all the numbers stored is what is left of them stored from here on.
-use mathlib.Core.Path.{◌≡◌, ◌∙◌, sym, refl}
-use Prim.Native.Nat.{◌+◌, ◌-◌, ◌<◌, ◌≤◌}
+use mathlib.Core.Path.{◌∙◌, sym, refl}
+use Prim.Native.Nat.{◌+◌, ◌<◌, ◌≤◌}
 use native.Mathlib.Omega.{arith}
 use native.Mathlib.Nat.{add-zero}
-use lib.ListN.{length, drop, length-set}
-use lib.Seq.{sets}
+use lib.ListN.{length, length-set}
 use Rattle.stores.proofs.Room.{filled_short, filled_room}
 use Rattle.stores.proofs.Turns.{sets_part, sets_end}
-use borrow.Author.Rules.{rules}
 use Rattle.c_state.proofs.put_numbers.Goals as goal
 
 pub returns-then-out-at : goal.returns-then-out-at

@@ -1,16 +1,10 @@
 -- `c_state::put_numbers` meets its contract. The loop's invariant: all the numbers stored is what is left of them stored from here on.
-use mathlib.Core.Path.{◌≡◌, ◌∙◌, sym, refl}
-use Prim.Native.Nat.{◌+◌, ◌-◌, ◌<◌, ◌≤◌}
-use native.Mathlib.Omega.{arith}
-use native.Mathlib.Nat.{add-zero}
-use lib.ListN.{length, drop, length-set}
+use mathlib.Core.Path.{◌≡◌}
+use Prim.Native.Nat.{◌+◌, ◌-◌, ◌≤◌}
+use lib.ListN.{length, drop}
 use lib.Seq.{sets}
-use Rattle.stores.proofs.Room.{filled_short, filled_room}
-use Rattle.stores.proofs.Turns.{sets_part, sets_end}
-use borrow.Author.Rules.{rules}
 use Rattle.c_state.proofs.put_numbers.Given as goal
 
--- `c_state::put_numbers` meets its contract. The loop's invariant: all the numbers stored is what is left of them stored from here on.
 abbrev pub invariant-loop-i : goal.invariant-loop-i
 invariant-loop-i l =
     (sets l.initial.out l.at l.numbers ≡ sets l.out (l.at + l.i) (drop l.i l.numbers)) × (length l.out ≡ length l.initial.out) × (l.i ≤ length l.numbers)

@@ -1,9 +1,9 @@
 -- `c_state::put_state` meets its contract: ten numbers, and the keys right behind them.
 use mathlib.Core.Path.{◌≡◌, ◌∙◌, sym, refl, ap}
-use mathlib.Core.List.{List, [], ◌∷◌, ◌++◌}
+use mathlib.Core.List.{List, ◌∷◌, ◌++◌}
 use Prim.Native.Nat.{ℕ, ◌+◌, ◌≤◌}
 use native.Mathlib.Omega.{arith}
-use lib.ListN.{length, length-map}
+use lib.ListN.{length}
 use Rattle.stores.specs.Stores.{filled}
 use Rattle.stores.proofs.Room.{filled_short, filled_room, filled_append}
 use Rattle.build.specs.Order.{rank}

@@ -1,7 +1,6 @@
 -- `c_state::state_of` meets its contract.
 use borrow.Author.Tests.{le-ltb, lt-ltb}
 use Rattle.c_state.specs.Kept.{state_of}
-use borrow.Author.Rules.{rules}
 use Rattle.c_state.proofs.state_of.Goals as goal
 
 pub returns-then-numbers-lt266 : goal.returns-then-numbers-lt266

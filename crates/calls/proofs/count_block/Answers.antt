@@ -10,7 +10,6 @@ use Rattle.calls.specs.Totals.{total}
 use Rattle.calls.proofs.Counters.{wider}
 use Rattle.calls.proofs.Padding.{told_block}
 use Rattle.calls.proofs.Pairs.{folded_65}
-use borrow.Author.Rules.{rules}
 use Rattle.calls.proofs.count_block.Goals as goal
 
 pub overflow_mul-n : goal.overflow_mul-n

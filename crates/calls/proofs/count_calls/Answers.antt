@@ -1,16 +1,14 @@
 -- `calls::count_calls` meets its contract. The loop's invariant: the part's tally is the one under way and the people that are left, who have room;
 -- no pair of counters is above the place; and no more are left than the part has.
 use mathlib.Core.Path.{◌≡◌, refl, ◌∙◌}
-use Prim.Native.Nat.{◌+◌, ◌*◌, ◌/◌, ◌<◌, ◌≤◌, ◌^◌}
 use native.Mathlib.Nat.{add-zero}
 use native.Mathlib.Omega.{arith}
-use lib.ListN.{drop, length}
 use Rattle.vectors.proofs.Plain.{block_room, block_one}
 use Rattle.vectors.proofs.Turns.{vectors_fit}
 use Rattle.calls.specs.Calls as spec
 use Rattle.calls.specs.Engine.{folded}
 use Rattle.calls.proofs.Counters.{raised_none, wider, zeros}
-use Rattle.calls.proofs.Turns.{onward, onward_start, onward_block, some_width, some_length}
+use Rattle.calls.proofs.Turns.{onward_start, onward_block, some_width, some_length}
 use borrow.Author.Rules.{rules}
 use Rattle.calls.proofs.count_calls.Goals as goal
 

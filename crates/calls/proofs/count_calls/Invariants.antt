@@ -1,21 +1,13 @@
 -- `calls::count_calls` meets its contract. The loop's invariant: the part's tally is the one under way and the people that are left, who have room;
 -- no pair of counters is above the place; and no more are left than the part has.
-use mathlib.Core.Path.{◌≡◌, refl, ◌∙◌}
+use mathlib.Core.Path.{◌≡◌}
 use Prim.Native.Nat.{◌+◌, ◌*◌, ◌/◌, ◌<◌, ◌≤◌, ◌^◌}
-use native.Mathlib.Nat.{add-zero}
-use native.Mathlib.Omega.{arith}
 use lib.ListN.{drop, length}
-use Rattle.vectors.proofs.Plain.{block_room, block_one}
-use Rattle.vectors.proofs.Turns.{vectors_fit}
 use Rattle.calls.specs.Calls as spec
 use Rattle.calls.specs.Engine.{folded}
-use Rattle.calls.proofs.Counters.{raised_none, wider, zeros}
-use Rattle.calls.proofs.Turns.{onward, onward_start, onward_block, some_width, some_length}
-use borrow.Author.Rules.{rules}
+use Rattle.calls.proofs.Turns.{onward}
 use Rattle.calls.proofs.count_calls.Given as goal
 
--- `calls::count_calls` meets its contract. The loop's invariant: the part's tally is the one under way and the people that are left, who have room;
--- no pair of counters is above the place; and no more are left than the part has.
 abbrev pub invariant-loop-left : goal.invariant-loop-left
 invariant-loop-left l =
     (spec.counted l.code l.len l.part ≡ onward l.without (folded l.pairs) l.code (spec.people l.w l.len l.left (drop l.at l.part)))

@@ -1,13 +1,11 @@
 -- `calls::count_people` meets its contract. The loop's invariant: the people that are left, counted on from what is counted, are all of them from
 -- the start; those left have room; and no pair of counters is above the place.
 use mathlib.Core.Path.{◌≡◌, refl, sym, ◌∙◌}
-use Prim.Native.Nat.{◌+◌, ◌*◌, ◌≤◌}
 use native.Mathlib.Nat.{add-zero, zero-add}
 use native.Mathlib.Omega.{arith}
-use lib.ListN.{drop, length}
 use Rattle.values.proofs.Room.{room}
 use Rattle.calls.specs.Calls as spec
-use Rattle.calls.specs.Engine.{raised, folded}
+use Rattle.calls.specs.Engine.{folded}
 use Rattle.calls.proofs.Counters.{raised_none, wider}
 use Rattle.calls.proofs.Turns.{without_turn, called_turn}
 use borrow.Author.Rules.{rules}

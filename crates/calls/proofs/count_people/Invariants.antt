@@ -1,20 +1,12 @@
 -- `calls::count_people` meets its contract. The loop's invariant: the people that are left, counted on from what is counted, are all of them from
 -- the start; those left have room; and no pair of counters is above the place.
-use mathlib.Core.Path.{◌≡◌, refl, sym, ◌∙◌}
+use mathlib.Core.Path.{◌≡◌}
 use Prim.Native.Nat.{◌+◌, ◌*◌, ◌≤◌}
-use native.Mathlib.Nat.{add-zero, zero-add}
-use native.Mathlib.Omega.{arith}
 use lib.ListN.{drop, length}
-use Rattle.values.proofs.Room.{room}
 use Rattle.calls.specs.Calls as spec
 use Rattle.calls.specs.Engine.{raised, folded}
-use Rattle.calls.proofs.Counters.{raised_none, wider}
-use Rattle.calls.proofs.Turns.{without_turn, called_turn}
-use borrow.Author.Rules.{rules}
 use Rattle.calls.proofs.count_people.Given as goal
 
--- `calls::count_people` meets its contract. The loop's invariant: the people that are left, counted on from what is counted, are all of them from
--- the start; those left have room; and no pair of counters is above the place.
 abbrev pub invariant-loop-left : goal.invariant-loop-left
 invariant-loop-left l =
     (spec.without l.code (spec.people l.w l.len l.count (drop l.from l.part)) ≡ l.lacking + spec.without l.code (spec.people l.w l.len l.left (drop l.at l.part)))

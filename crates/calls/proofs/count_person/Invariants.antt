@@ -1,24 +1,13 @@
 -- `calls::count_person` meets its contract. The loop's invariant: what is left of the person, counted on from the counters as they are, is what
 -- all of the person is from those at entry; what is left has room; and no pair of counters is above the place.
-use mathlib.Core.Path.{◌≡◌, refl, sym, ◌∙◌}
-use mathlib.Core.Logic.{⊎_elim}
-use Prim.Native.Nat.{◌+◌, ◌*◌, ◌%◌, ◌<◌, ◌≤◌}
-use native.Mathlib.Nat.{one-mul, mul-one, mul-zero, zero-mul}
-use native.Mathlib.Omega.{arith}
-use lib.ListN.{drop, get_or, length, length-set, set}
-use Rattle.words.proofs.Words.{number_at}
-use Rattle.values.proofs.Room.{room}
+use mathlib.Core.Path.{◌≡◌}
+use Prim.Native.Nat.{◌+◌, ◌*◌, ◌≤◌}
+use lib.ListN.{drop, length}
 use Rattle.vectors.specs.Vectors.{numbers}
 use Rattle.calls.specs.Calls.{slots, alleles, no_slot, AtMost}
 use Rattle.calls.specs.Engine.{raised, folded}
-use Rattle.calls.proofs.Counters.{raised_none, raised_one, set_past, set_within, wider}
-use Rattle.calls.proofs.Pairs.{folded_set, folded_above, folded_65}
-use Rattle.calls.proofs.Turns.{none_turn, alleles_turn}
-use borrow.Author.Rules.{rules}
 use Rattle.calls.proofs.count_person.Given as goal
 
--- `calls::count_person` meets its contract. The loop's invariant: what is left of the person, counted on from the counters as they are, is what
--- all of the person is from those at entry; what is left has room; and no pair of counters is above the place.
 abbrev pub invariant-loop-left : goal.invariant-loop-left
 invariant-loop-left l =
     (no_slot (slots l.code (numbers l.w l.len (drop l.from l.part))) ≡ l.none * no_slot (slots l.code (numbers l.w l.left (drop l.at l.part))))

@@ -1,10 +1,8 @@
 -- `calls::few_of` meets its contract. The loop's invariant: those of each half are the ones counted and the ones that are left, which have room;
 -- and no counter is above the number of elements before the place.
 use mathlib.Core.Path.{◌≡◌, sym, ◌∙◌}
-use Prim.Native.Nat.{◌+◌, ◌<◌, ◌≤◌}
 use native.Mathlib.Nat.{add-zero, zero-add}
 use native.Mathlib.Omega.{arith}
-use lib.ListN.{drop, length}
 use Rattle.vectors.specs.Vectors.{numbers}
 use Rattle.calls.specs.Calls.{how_many, counters}
 use Rattle.calls.specs.Engine.{halves}

@@ -1,20 +1,13 @@
 -- `calls::few_of` meets its contract. The loop's invariant: those of each half are the ones counted and the ones that are left, which have room;
 -- and no counter is above the number of elements before the place.
-use mathlib.Core.Path.{◌≡◌, sym, ◌∙◌}
+use mathlib.Core.Path.{◌≡◌}
 use Prim.Native.Nat.{◌+◌, ◌<◌, ◌≤◌}
-use native.Mathlib.Nat.{add-zero, zero-add}
-use native.Mathlib.Omega.{arith}
 use lib.ListN.{drop, length}
 use Rattle.vectors.specs.Vectors.{numbers}
-use Rattle.calls.specs.Calls.{how_many, counters}
+use Rattle.calls.specs.Calls.{how_many}
 use Rattle.calls.specs.Engine.{halves}
-use Rattle.calls.proofs.Halves.{half_turn}
-use Rattle.calls.proofs.Padding.{end_turn}
-use borrow.Author.Rules.{rules}
 use Rattle.calls.proofs.few_of.Given as goal
 
--- `calls::few_of` meets its contract. The loop's invariant: those of each half are the ones counted and the ones that are left, which have room;
--- and no counter is above the number of elements before the place.
 abbrev pub invariant-loop-left : goal.invariant-loop-left
 invariant-loop-left l =
     (how_many 0 (halves (numbers 1 l.count (drop l.from l.part))) ≡ l.none + how_many 0 (halves (numbers 1 l.left (drop l.at l.part))))

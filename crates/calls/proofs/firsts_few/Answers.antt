@@ -1,17 +1,12 @@
 -- `calls::firsts_few` meets its contract. The loop's invariant: all first elements are few where those before the place are and those left are,
 -- and these have room.
 use mathlib.Core.Path.{◌≡◌, ◌∙◌, sym}
-use mathlib.Core.Bool.{false}
-use Prim.Native.Nat.{◌+◌, ◌*◌, ◌≤◌}
 use native.Mathlib.Omega.{arith}
-use lib.ListN.{drop, length}
-use Rattle.words.specs.Pick.{pick}
 use Rattle.values.proofs.Room.{room}
 use Rattle.words.proofs.Pick.{pick_test}
 use Rattle.calls.specs.Calls.{people}
 use Rattle.calls.specs.Engine.{firsts_few}
 use Rattle.calls.proofs.Padding.{firsts_turn}
-use borrow.Author.Rules.{rules}
 use Rattle.calls.proofs.firsts_few.Goals as goal
 
 pub loop-left-preserved : goal.loop-left-preserved

@@ -2,7 +2,6 @@
 use native.Mathlib.Omega.{arith}
 use lib.ListN.{length-set}
 use Rattle.calls.proofs.Pairs.{folded_above, folded_four}
-use borrow.Author.Rules.{rules}
 use Rattle.calls.proofs.raise_few.Goals as goal
 
 pub overflow_add-none : goal.overflow_add-none

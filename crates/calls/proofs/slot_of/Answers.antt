@@ -1,5 +1,4 @@
 -- `calls::slot_of` meets its contract.
-use borrow.Author.Rules.{rules}
 use Rattle.calls.proofs.slot_of.Goals as goal
 
 pub returns-in-End : goal.returns-in-End

@@ -1,13 +1,11 @@
 -- `calls::sum_pairs` meets its contract. The loop's invariant: the counters before the place are the sums.
-use mathlib.Core.Path.{◌≡◌, refl, sym, ◌∙◌}
-use Prim.Native.Nat.{ℕ, ◌-◌, ◌<◌, ◌≤◌}
+use mathlib.Core.Path.{refl, sym, ◌∙◌}
 use native.Mathlib.Omega.{arith}
 use borrow.Author.Count.{below_more}
-use lib.ListN.{get_or, length, length-set}
+use lib.ListN.{length-set}
 use lib.Seq.{ext_get_or, get_or-set_other, get_or-set_same}
 use Rattle.calls.specs.Engine.{folded}
 use Rattle.calls.proofs.Pairs.{folded_at, folded_65}
-use borrow.Author.Rules.{rules}
 use Rattle.calls.proofs.sum_pairs.Goals as goal
 
 pub loop-i-init : goal.loop-i-init

@@ -1,16 +1,10 @@
 -- `calls::sum_pairs` meets its contract. The loop's invariant: the counters before the place are the sums.
-use mathlib.Core.Path.{◌≡◌, refl, sym, ◌∙◌}
+use mathlib.Core.Path.{◌≡◌}
 use Prim.Native.Nat.{ℕ, ◌-◌, ◌<◌, ◌≤◌}
-use native.Mathlib.Omega.{arith}
-use borrow.Author.Count.{below_more}
-use lib.ListN.{get_or, length, length-set}
-use lib.Seq.{ext_get_or, get_or-set_other, get_or-set_same}
+use lib.ListN.{get_or, length}
 use Rattle.calls.specs.Engine.{folded}
-use Rattle.calls.proofs.Pairs.{folded_at, folded_65}
-use borrow.Author.Rules.{rules}
 use Rattle.calls.proofs.sum_pairs.Given as goal
 
--- `calls::sum_pairs` meets its contract. The loop's invariant: the counters before the place are the sums.
 abbrev pub invariant-loop-i : goal.invariant-loop-i
 invariant-loop-i l =
     (l.i ≤ 65) × (length l.counts ≡ 65) × ((j : ℕ) → j < l.i → get_or l.counts j 0 ≡ get_or (folded l.pairs) j 0)

@@ -1,7 +1,6 @@
 -- `capitals::capital_of` meets its contract.
 use borrow.Author.Tests.{lt-ltb, le-ltb}
 use Rattle.capitals.specs.Capitals.{capital}
-use borrow.Author.Rules.{rules}
 use Rattle.capitals.proofs.capital_of.Goals as goal
 
 pub returns-then-d-lt10 : goal.returns-then-d-lt10

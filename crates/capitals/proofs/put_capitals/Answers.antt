@@ -1,14 +1,12 @@
 -- `capitals::put_capitals` meets its contract. The loop's invariant: the whole text stored is the text of the bytes that are left stored
 -- from here on.
-use mathlib.Core.Path.{◌≡◌, ◌∙◌, sym}
-use Prim.Native.Nat.{◌+◌, ◌-◌, ◌*◌, ◌<◌, ◌≤◌}
+use mathlib.Core.Path.{◌∙◌, sym}
+use Prim.Native.Nat.{◌+◌, ◌<◌, ◌≤◌}
 use native.Mathlib.Omega.{arith}
-use lib.ListN.{length, drop, length-set}
-use lib.Seq.{sets}
+use lib.ListN.{length, length-set}
 use Rattle.stores.proofs.Room.{fits_short, fits_room, filled_short, filled_room}
 use Rattle.capitals.specs.Capitals.{capitals}
 use Rattle.capitals.proofs.Turns.{length_capitals, capitals_turn, capitals_end}
-use borrow.Author.Rules.{rules}
 use Rattle.capitals.proofs.put_capitals.Goals as goal
 
 pub returns-then-buf-at : goal.returns-then-buf-at

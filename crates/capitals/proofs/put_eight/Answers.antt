@@ -1,7 +1,6 @@
 -- `capitals::put_eight` meets its contract.
 use Rattle.capitals.specs.Capitals.{high_first}
 use Rattle.capitals.proofs.Turns.{length_capitals}
-use borrow.Author.Rules.{rules}
 use Rattle.capitals.proofs.put_eight.Goals as goal
 
 pub returns : goal.returns

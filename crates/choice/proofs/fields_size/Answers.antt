@@ -1,13 +1,12 @@
 -- `choice::fields_size` meets its contract. The loop's invariant: the whole size is what was counted and the size of the fields that are left.
 use mathlib.Core.Path.{◌≡◌, ◌∙◌, sym, ap}
-use Prim.Native.Nat.{ℕ, ◌+◌, ◌-◌, ◌*◌, ◌≤◌, max}
+use Prim.Native.Nat.{ℕ, ◌*◌}
 use native.Mathlib.Omega.{arith}
-use lib.ListN.{length, drop}
+use lib.ListN.{drop}
 use Rattle.types.specs.Rows.{width_of}
 use Rattle.types.specs.declared.Use.TheVariants.{Format}
 use Rattle.choice.specs.Sizes.{fields_size}
 use Rattle.choice.proofs.Sizes.{kept_parts, size_turn, size_none}
-use borrow.Author.Rules.{rules}
 use Rattle.fetch_laws.proofs.Present.{paired_stop}
 use Rattle.choice.proofs.fields_size.Goals as goal
 

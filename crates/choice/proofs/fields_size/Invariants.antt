@@ -1,17 +1,10 @@
 -- `choice::fields_size` meets its contract. The loop's invariant: the whole size is what was counted and the size of the fields that are left.
-use mathlib.Core.Path.{◌≡◌, ◌∙◌, sym, ap}
-use Prim.Native.Nat.{ℕ, ◌+◌, ◌-◌, ◌*◌, ◌≤◌, max}
-use native.Mathlib.Omega.{arith}
+use mathlib.Core.Path.{◌≡◌}
+use Prim.Native.Nat.{◌+◌, ◌-◌, ◌≤◌, max}
 use lib.ListN.{length, drop}
-use Rattle.types.specs.Rows.{width_of}
-use Rattle.types.specs.declared.Use.TheVariants.{Format}
 use Rattle.choice.specs.Sizes.{fields_size}
-use Rattle.choice.proofs.Sizes.{kept_parts, size_turn, size_none}
-use borrow.Author.Rules.{rules}
-use Rattle.fetch_laws.proofs.Present.{paired_stop}
 use Rattle.choice.proofs.fields_size.Given as goal
 
--- `choice::fields_size` meets its contract. The loop's invariant: the whole size is what was counted and the size of the fields that are left.
 abbrev pub invariant-loop-left : goal.invariant-loop-left
 invariant-loop-left l =
     (fields_size l.people l.kept l.count l.from (drop l.from l.block) ≡ l.sum + fields_size l.people l.kept l.left l.at (drop l.at l.block))

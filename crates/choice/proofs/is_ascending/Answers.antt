@@ -1,12 +1,8 @@
 -- `choice::is_ascending` meets its contract. The loop's invariant: the whole choice ascends as what is left of it does.
-use mathlib.Core.Path.{◌≡◌, ◌∙◌}
-use Prim.Native.Nat.{◌-◌, ◌≤◌}
+use mathlib.Core.Path.{◌∙◌}
 use native.Mathlib.Omega.{arith}
-use lib.ListN.{drop, length}
 use borrow.Author.Tests.{lt-ltb, le-ltb, le-leb, lt-leb}
-use Rattle.choice.specs.Choice.{ascending_from}
 use Rattle.choice.proofs.Choice.{ascending_turn, ascending_end}
-use borrow.Author.Rules.{rules}
 use Rattle.choice.proofs.is_ascending.Goals as goal
 
 pub returns-then-c-least : goal.returns-then-c-least

@@ -1,15 +1,10 @@
 -- `choice::is_ascending` meets its contract. The loop's invariant: the whole choice ascends as what is left of it does.
-use mathlib.Core.Path.{◌≡◌, ◌∙◌}
+use mathlib.Core.Path.{◌≡◌}
 use Prim.Native.Nat.{◌-◌, ◌≤◌}
-use native.Mathlib.Omega.{arith}
 use lib.ListN.{drop, length}
-use borrow.Author.Tests.{lt-ltb, le-ltb, le-leb, lt-leb}
 use Rattle.choice.specs.Choice.{ascending_from}
-use Rattle.choice.proofs.Choice.{ascending_turn, ascending_end}
-use borrow.Author.Rules.{rules}
 use Rattle.choice.proofs.is_ascending.Given as goal
 
--- `choice::is_ascending` meets its contract. The loop's invariant: the whole choice ascends as what is left of it does.
 abbrev pub invariant-loop-i : goal.invariant-loop-i
 invariant-loop-i l = (ascending_from 0 l.people l.choice ≡ ascending_from l.least l.people (drop l.i l.choice)) × (l.i ≤ length l.choice)
 

@@ -3,7 +3,6 @@ use mathlib.Core.Path.{◌∙◌}
 use native.Mathlib.Omega.{arith}
 use borrow.Author.Tests.{lt-ltb, le-ltb}
 use Rattle.choice.specs.Sizes.{kept_size}
-use borrow.Author.Rules.{rules}
 use Rattle.choice.proofs.kept_size.Goals as goal
 
 pub returns-then-people-kept : goal.returns-then-people-kept

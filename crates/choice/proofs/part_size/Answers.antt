@@ -2,7 +2,6 @@
 use Prim.Native.Nat.{◌^◌, ◌*◌, ◌<◌}
 use native.Mathlib.Omega.{arith}
 use Rattle.values.proofs.Room.{prod}
-use borrow.Author.Rules.{rules}
 use Rattle.choice.proofs.part_size.Goals as goal
 
 pub overflow_mul-result : goal.overflow_mul-result

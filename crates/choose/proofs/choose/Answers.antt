@@ -9,7 +9,6 @@ use Rattle.choose.specs.Chosen.{chosen_block, chosen_record}
 use Rattle.choose.specs.Choose.{choosing, after_choosing}
 use Rattle.choose.proofs.People.{people_bound}
 use Rattle.choose.proofs.Written.{length_chosen_record, kept_block}
-use borrow.Author.Rules.{rules}
 use Rattle.choose.proofs.choose.Goals as goal
 
 pub returns-in_default : goal.returns-in_default

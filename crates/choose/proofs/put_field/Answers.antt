@@ -6,7 +6,6 @@ use Rattle.choice.specs.Choice.{chosen_parts}
 use lib.ListN.{length, take, drop, length-drop}
 use lib.Seq.{take_all}
 use Rattle.choose.proofs.Written.{head_stored}
-use borrow.Author.Rules.{rules}
 use Rattle.choose.proofs.put_field.Goals as goal
 
 pub returns : goal.returns

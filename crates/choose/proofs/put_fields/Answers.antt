@@ -1,16 +1,14 @@
 -- `choose::put_fields` meets its contract. The loop's invariant: all fields stored are those that are left, stored from here on.
 use mathlib.Core.Path.{◌≡◌, ◌∙◌, sym, ap}
-use Prim.Native.Nat.{ℕ, ◌+◌, ◌-◌, ◌*◌, ◌≤◌}
+use Prim.Native.Nat.{ℕ, ◌*◌}
 use native.Mathlib.Omega.{arith}
 use lib.ListN.{length, drop}
 use lib.Seq.{sets}
 use Rattle.types.specs.Rows.{width_of}
 use Rattle.choose.specs.Chosen.{chosen_fields}
-use Rattle.choice.specs.Sizes.{fields_size}
 use Rattle.choice.proofs.Sizes.{size_turn}
 use Rattle.choose.proofs.Fields.{fields_none}
 use Rattle.choose.proofs.Written.{parts_stop, field_stored}
-use borrow.Author.Rules.{rules}
 use Rattle.choose.proofs.put_fields.Goals as goal
 
 pub returns-in_default : goal.returns-in_default

@@ -1,19 +1,12 @@
 -- `choose::put_fields` meets its contract. The loop's invariant: all fields stored are those that are left, stored from here on.
-use mathlib.Core.Path.{◌≡◌, ◌∙◌, sym, ap}
-use Prim.Native.Nat.{ℕ, ◌+◌, ◌-◌, ◌*◌, ◌≤◌}
-use native.Mathlib.Omega.{arith}
+use mathlib.Core.Path.{◌≡◌}
+use Prim.Native.Nat.{◌+◌, ◌≤◌}
 use lib.ListN.{length, drop}
 use lib.Seq.{sets}
-use Rattle.types.specs.Rows.{width_of}
 use Rattle.choose.specs.Chosen.{chosen_fields}
 use Rattle.choice.specs.Sizes.{fields_size}
-use Rattle.choice.proofs.Sizes.{size_turn}
-use Rattle.choose.proofs.Fields.{fields_none}
-use Rattle.choose.proofs.Written.{parts_stop, field_stored}
-use borrow.Author.Rules.{rules}
 use Rattle.choose.proofs.put_fields.Given as goal
 
--- `choose::put_fields` meets its contract. The loop's invariant: all fields stored are those that are left, stored from here on.
 abbrev pub invariant-loop-left : goal.invariant-loop-left
 invariant-loop-left l =
     (sets l.initial.buf l.to (chosen_fields l.people l.choice l.count l.from (drop l.from l.block)) ≡ sets l.buf l.o (chosen_fields l.people l.choice l.left l.at (drop l.at l.block)))

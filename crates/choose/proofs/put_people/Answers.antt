@@ -1,14 +1,12 @@
 -- `choose::put_people` meets its contract. The loop's invariant: everybody's parts stored are those of the people who are left, stored from here on.
 use mathlib.Core.Path.{◌≡◌, ◌∙◌, ap, refl, sym}
-use Prim.Native.Nat.{ℕ, ◌+◌, ◌-◌, ◌*◌, ◌≤◌}
-use mathlib.Core.List.{[]}
+use Prim.Native.Nat.{ℕ, ◌*◌}
 use native.Mathlib.Omega.{arith}
 use native.Mathlib.Nat.{sub-zero}
 use lib.ListN.{length, drop, get_or, drop_of_length-le}
 use lib.Seq.{sets}
 use Rattle.choice.specs.Choice.{chosen_parts}
 use Rattle.choose.proofs.Stretches.{stretch_inside, stretch_room, stretch_stored}
-use borrow.Author.Rules.{rules}
 use Rattle.choose.proofs.put_people.Goals as goal
 
 pub loop-i-init : goal.loop-i-init

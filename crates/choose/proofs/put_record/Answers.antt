@@ -5,7 +5,6 @@ use lib.Seq.{length-take-le}
 use Rattle.choose.specs.Chosen.{chosen_block}
 use Rattle.choice.proofs.Choice.{length_ascending}
 use Rattle.choose.proofs.Written.{record_stored, size_block}
-use borrow.Author.Rules.{rules}
 use Rattle.choose.proofs.put_record.Goals as goal
 
 pub slice_bounds-put-end : goal.slice_bounds-put-end

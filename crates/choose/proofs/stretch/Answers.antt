@@ -1,9 +1,6 @@
 -- `choose::stretch` meets its contract. The loop's invariant: there are that many people from the place on.
-use Prim.Native.Nat.{◌+◌, ◌-◌, ◌≤◌}
 use native.Mathlib.Omega.{arith}
 use native.Mathlib.Nat.{add-zero}
-use lib.ListN.{length}
-use borrow.Author.Rules.{rules}
 use Rattle.choose.proofs.stretch.Goals as goal
 
 pub returns : goal.returns

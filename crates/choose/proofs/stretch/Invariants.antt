@@ -1,12 +1,8 @@
 -- `choose::stretch` meets its contract. The loop's invariant: there are that many people from the place on.
-use Prim.Native.Nat.{◌+◌, ◌-◌, ◌≤◌}
-use native.Mathlib.Omega.{arith}
-use native.Mathlib.Nat.{add-zero}
+use Prim.Native.Nat.{◌+◌, ◌≤◌}
 use lib.ListN.{length}
-use borrow.Author.Rules.{rules}
 use Rattle.choose.proofs.stretch.Given as goal
 
--- `choose::stretch` meets its contract. The loop's invariant: there are that many people from the place on.
 abbrev pub invariant-loop-k : goal.invariant-loop-k
 invariant-loop-k l =
     l.i + l.k ≤ length l.choice

@@ -9,7 +9,6 @@ use Rattle.frames.specs.declared.Answer.{Answer}
 use Rattle.frames.proofs.Behind.{behind}
 use Rattle.frames.specs.Text.{bad_line}
 use Rattle.cuts.proofs.Cuts.{said_as, said_in_as}
-use borrow.Author.Rules.{rules}
 use Rattle.cuts.proofs.bad_step.Goals as goal
 
 -- the text's length, which is told, and that it lies behind what waits

@@ -3,7 +3,6 @@ use mathlib.Core.Path.{sym, ◌∙◌}
 use lib.ListN.{length}
 use Rattle.hexadecimal.specs.Hexadecimal.{choice_of}
 use Rattle.cuts.proofs.Choices.{people_told, people_most, choice_bad, choice_room}
-use borrow.Author.Rules.{rules}
 use Rattle.cuts.proofs.choice_step.Goals as goal
 
 pub release_step-requires : goal.release_step-requires

@@ -13,7 +13,6 @@ use Rattle.cuts.specs.Cuts.{cut, cut_out, cut_from, cut_kept}
 use Rattle.cuts.proofs.Cuts.{cut_bytes, cut_bad, said_as, said_in_as}
 use Rattle.hexadecimal.proofs.Rooms.{frame_most, frame_room_lem}
 use Rattle.cuts.proofs.Rooms.{rooms}
-use borrow.Author.Rules.{rules}
 use Rattle.cuts.proofs.cut_line.Goals as goal
 
 pub slice_bounds-say_record-end : goal.slice_bounds-say_record-end

@@ -2,7 +2,6 @@
 use native.Mathlib.Omega.{arith}
 use native.Mathlib.Nat.{add-zero}
 use Rattle.cuts.specs.Steps.{stage_after, line_text}
-use borrow.Author.Rules.{rules}
 use Rattle.cuts.proofs.first_step.Goals as goal
 
 pub returns-in_default : goal.returns-in_default

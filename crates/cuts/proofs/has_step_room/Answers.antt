@@ -1,7 +1,6 @@
 -- `cuts::has_step_room` meets its contract.
 use borrow.Author.Tests.{lt-ltb, le-ltb}
 use Rattle.cuts.specs.Steps.{step_room}
-use borrow.Author.Rules.{rules}
 use Rattle.cuts.proofs.has_step_room.Goals as goal
 
 pub returns-then-choice-lt-CHOICE_ROOM : goal.returns-then-choice-lt-CHOICE_ROOM

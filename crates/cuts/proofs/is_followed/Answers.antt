@@ -1,6 +1,5 @@
 -- `cuts::is_followed` meets its contract.
 use Rattle.cuts.specs.Engine.{followed}
-use borrow.Author.Rules.{rules}
 use Rattle.cuts.proofs.is_followed.Goals as goal
 
 pub returns-in_default : goal.returns-in_default

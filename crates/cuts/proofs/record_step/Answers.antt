@@ -10,7 +10,6 @@ use Rattle.frames.proofs.Behind.{behind}
 use lib.Seq.{length-take-le}
 use Rattle.cuts.specs.Cuts.{cut_line}
 use Rattle.cuts.proofs.Steps.{roomy_there, cut_there}
-use borrow.Author.Rules.{rules}
 use Rattle.cuts.proofs.record_step.Goals as goal
 
 -- the text's length, which is told, and that it lies behind what waits

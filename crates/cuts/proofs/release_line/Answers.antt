@@ -1,12 +1,10 @@
 -- `cuts::release_line` meets its contract.
 use mathlib.Core.Path.{ap, sym}
 use native.Mathlib.Omega.{arith}
-use lib.ListN.{length-set}
 use borrow.Author.Tests.{lt-ltb, le-ltb}
 use Rattle.frames.specs.declared.Answer.TheVariants.{Text}
 use Rattle.cuts.specs.Release.{release_said, release_said_in}
 use Rattle.cuts.proofs.Releases.{length_release, release_stored}
-use borrow.Author.Rules.{rules}
 use Rattle.cuts.proofs.release_line.Goals as goal
 
 pub returns-then-out-lt33 : goal.returns-then-out-lt33

@@ -9,7 +9,6 @@ use Rattle.frames.specs.declared.Answer.{Answer}
 use Rattle.frames.proofs.Behind.{behind}
 use Rattle.cuts.specs.Release.{release_line}
 use Rattle.cuts.proofs.Steps.{release_there}
-use borrow.Author.Rules.{rules}
 use Rattle.cuts.proofs.release_step.Goals as goal
 
 -- the text's length, which is told, and that it lies behind what waits

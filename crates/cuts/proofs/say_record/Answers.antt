@@ -8,7 +8,6 @@ use lib.Seq.{sets, length-take-le}
 use Rattle.frames.specs.declared.Answer.TheVariants.{Text}
 use Rattle.cuts.specs.Cuts.{record_text}
 use Rattle.cuts.proofs.Cuts.{unread_said, followed_said, chosen_said, refused_said, said_as, said_in_as}
-use borrow.Author.Rules.{rules}
 use Rattle.cuts.proofs.say_record.Goals as goal
 
 pub returns-in_default : goal.returns-in_default

@@ -3,7 +3,6 @@ use mathlib.Core.Path.{ap, sym}
 use native.Mathlib.Omega.{arith}
 use Rattle.frames.specs.declared.Answer.TheVariants.{Text}
 use Rattle.cuts.proofs.Cuts.{length_text, text_stored}
-use borrow.Author.Rules.{rules}
 use Rattle.cuts.proofs.say_text.Goals as goal
 
 pub returns : goal.returns

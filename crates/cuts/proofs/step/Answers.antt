@@ -4,7 +4,6 @@ use native.Mathlib.Omega.{arith}
 use native.Mathlib.Nat.{add-zero}
 use Rattle.cuts.specs.Steps.{stepped, stepped_out, stage_after, line_text, choice_after, frame_after, chosen_after}
 use Rattle.cuts.proofs.Steps.{step_rooms}
-use borrow.Author.Rules.{rules}
 use Rattle.cuts.proofs.step.Goals as goal
 
 pub first_step-requires : goal.first_step-requires

@@ -1,11 +1,6 @@
 -- `digits_in`: what was counted and what the rest has make the digits of the whole. Rests on proofs/Decimal.
-use mathlib.Core.Path.{◌≡◌}
-use Prim.Native.Nat.{◌+◌}
 use native.Mathlib.Omega.{arith}
-use lib.ListN.{length}
-use Rattle.decimal.specs.Decimal.{decimal}
 use Rattle.decimal.proofs.Decimal.{twenty, some_digit, one_digit, digit_more}
-use borrow.Author.Rules.{rules}
 use Rattle.decimal.proofs.digits_in.Goals as goal
 
 pub loop-rest-init : goal.loop-rest-init

@@ -1,14 +1,10 @@
 -- `digits_in`: what was counted and what the rest has make the digits of the whole. Rests on proofs/Decimal.
 use mathlib.Core.Path.{◌≡◌}
 use Prim.Native.Nat.{◌+◌}
-use native.Mathlib.Omega.{arith}
 use lib.ListN.{length}
 use Rattle.decimal.specs.Decimal.{decimal}
-use Rattle.decimal.proofs.Decimal.{twenty, some_digit, one_digit, digit_more}
-use borrow.Author.Rules.{rules}
 use Rattle.decimal.proofs.digits_in.Given as goal
 
--- `digits_in`: what was counted and what the rest has make the digits of the whole. Rests on proofs/Decimal.
 abbrev pub invariant-loop-rest : goal.invariant-loop-rest
 invariant-loop-rest l = l.count + length (decimal l.rest) ≡ length (decimal l.n) + 1
 

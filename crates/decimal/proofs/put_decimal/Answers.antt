@@ -5,7 +5,6 @@ use lib.ListN.{length}
 use borrow.Author.Tests.{lt-ltb, le-ltb}
 use Rattle.decimal.specs.Decimal.{decimal, placed}
 use Rattle.stores.specs.Stores.{filled}
-use borrow.Author.Rules.{rules}
 use Rattle.decimal.proofs.put_decimal.Goals as goal
 
 pub returns-then-buf-at : goal.returns-then-buf-at

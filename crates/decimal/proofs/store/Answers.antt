@@ -1,13 +1,11 @@
 -- `store`: the text of what is left, stored at the place, makes the whole text there. Rests on proofs/Decimal and proofs/Stores.
 use mathlib.Core.Path.{◌≡◌, refl, ◌∙◌}
-use Prim.Native.Nat.{◌+◌, ◌/◌, ◌<◌}
+use Prim.Native.Nat.{◌+◌, ◌/◌}
 use native.Mathlib.Omega.{arith}
 use lib.ListN.{length, length-set}
-use lib.Seq.{sets}
 use Rattle.decimal.specs.Decimal.{decimal}
 use Rattle.decimal.proofs.Decimal.{below_ten, from_ten, some_digit, one_digit, digit_more}
 use Rattle.decimal.proofs.Stores.{last_first}
-use borrow.Author.Rules.{rules}
 use Rattle.decimal.proofs.store.Goals as goal
 
 pub overflow_sub-last : goal.overflow_sub-last

@@ -1,16 +1,11 @@
 -- `store`: the text of what is left, stored at the place, makes the whole text there. Rests on proofs/Decimal and proofs/Stores.
-use mathlib.Core.Path.{◌≡◌, refl, ◌∙◌}
-use Prim.Native.Nat.{◌+◌, ◌/◌, ◌<◌}
-use native.Mathlib.Omega.{arith}
-use lib.ListN.{length, length-set}
+use mathlib.Core.Path.{◌≡◌}
+use Prim.Native.Nat.{◌+◌, ◌<◌}
+use lib.ListN.{length}
 use lib.Seq.{sets}
 use Rattle.decimal.specs.Decimal.{decimal}
-use Rattle.decimal.proofs.Decimal.{below_ten, from_ten, some_digit, one_digit, digit_more}
-use Rattle.decimal.proofs.Stores.{last_first}
-use borrow.Author.Rules.{rules}
 use Rattle.decimal.proofs.store.Given as goal
 
--- `store`: the text of what is left, stored at the place, makes the whole text there. Rests on proofs/Decimal and proofs/Stores.
 abbrev pub invariant-loop-rest : goal.invariant-loop-rest
 invariant-loop-rest l =
     (sets l.initial.buf l.at (decimal l.n) ≡ sets l.buf l.at (decimal l.rest))

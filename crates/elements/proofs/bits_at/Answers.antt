@@ -3,7 +3,6 @@ use mathlib.Core.Path.{◌∙◌}
 use lib.ListN.{drop}
 use Rattle.words.proofs.Words.{number_part}
 use Rattle.types.proofs.Table.{widths}
-use borrow.Author.Rules.{rules}
 use Rattle.elements.proofs.bits_at.Goals as goal
 
 pub returns : goal.returns

@@ -5,7 +5,6 @@ use mir.Syntax.{w32}
 use mir.Val.{of_z}
 use Rattle.words.proofs.Sign.{back}
 use Rattle.types.specs.Elements.{kind}
-use borrow.Author.Rules.{rules}
 use Rattle.elements.proofs.call_at.Goals as goal
 
 pub returns-in-Integer : goal.returns-in-Integer

@@ -1,5 +1,4 @@
 -- `elements::call_of` meets its contract.
-use borrow.Author.Rules.{rules}
 use Rattle.elements.proofs.call_of.Goals as goal
 
 pub returns-in-End : goal.returns-in-End

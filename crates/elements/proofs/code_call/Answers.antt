@@ -4,7 +4,6 @@ use mir.Syntax.{w32}
 use mir.Facts.{to_z_pos}
 use Rattle.words.proofs.Sign.{high}
 use Rattle.elements.specs.Elements.{code_call}
-use borrow.Author.Rules.{rules}
 use Rattle.elements.proofs.code_call.Goals as goal
 
 pub returns-then-bits-ge2147483648 : goal.returns-then-bits-ge2147483648

@@ -6,7 +6,6 @@ use borrow.Author.Tests.{le-leb, lt-leb}
 use Rattle.words.proofs.Words.{number_at}
 use Rattle.elements.specs.Elements.{element_at}
 use Rattle.elements.proofs.Elements.{element_inside}
-use borrow.Author.Rules.{rules}
 use Rattle.elements.proofs.element_at.Goals as goal
 
 pub returns-then-code-eq7 : goal.returns-then-code-eq7

@@ -3,7 +3,6 @@ use borrow.Author.Tests.{eq-eqb, ne_eqb}
 use Rattle.elements.specs.Elements.{shown_by}
 use mir.Syntax.{w32}
 use mir.Facts.{to_z-of_z}
-use borrow.Author.Rules.{rules}
 use Rattle.elements.proofs.number_shown.Goals as goal
 
 pub returns-then-code-eq5 : goal.returns-then-code-eq5

@@ -1,7 +1,6 @@
 -- `elements::text_at` meets its contract.
 use borrow.Author.Tests.{le-leb, lt-leb}
 use Rattle.elements.proofs.Elements.{element_text}
-use borrow.Author.Rules.{rules}
 use Rattle.elements.proofs.text_at.Goals as goal
 
 pub returns-then-index-part : goal.returns-then-index-part

@@ -1,19 +1,16 @@
 -- `encode::all_pairs` meets its contract. The loop's invariant: the type takes all where it took those before the place and takes those left.
 use mathlib.Core.Path.{◌≡◌, ◌∙◌, sym}
 use mathlib.Core.List.{map}
-use mathlib.Core.Bool.{◌&&◌}
-use Prim.Native.Nat.{◌-◌, ◌≤◌}
 use native.Mathlib.Omega.{arith}
 use lib.Dec.{leb}
 use lib.IntN.{pos}
-use lib.ListN.{length, drop, get_or, length-map}
+use lib.ListN.{get_or, length-map}
 use mir.Syntax.{w32}
 use mir.Val.{of_z}
 use Rattle.words.proofs.Sign.{bits_back}
 use Rattle.types.specs.Elements.{kind}
-use Rattle.encode.specs.Encode.{type_for, widest}
+use Rattle.encode.specs.Encode.{type_for}
 use Rattle.encode.proofs.Widest.{sweep_turn_bits, sweep_end}
-use borrow.Author.Rules.{rules}
 use Rattle.encode.proofs.all_pairs.Goals as goal
 
 pub loop-i-preserved : goal.loop-i-preserved

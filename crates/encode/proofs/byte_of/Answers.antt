@@ -4,7 +4,6 @@ use Prim.Native.Nat.{◌+◌, ◌%◌}
 use native.Mathlib.Omega.{arith}
 use Rattle.encode.specs.Encode.{narrowed}
 use Rattle.encode.proofs.Marks.{byte_narrowed}
-use borrow.Author.Rules.{rules}
 use Rattle.encode.proofs.byte_of.Goals as goal
 
 pub overflow_add-result : goal.overflow_add-result

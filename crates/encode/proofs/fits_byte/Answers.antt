@@ -1,7 +1,6 @@
 -- `encode::fits_byte` meets its contract.
 use borrow.Author.Tests.{le-leb, lt-leb}
 use Rattle.encode.proofs.Widest.{fits_1}
-use borrow.Author.Rules.{rules}
 use Rattle.encode.proofs.fits_byte.Goals as goal
 
 pub returns-then-x-le127 : goal.returns-then-x-le127

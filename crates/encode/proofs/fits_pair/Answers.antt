@@ -1,7 +1,6 @@
 -- `encode::fits_pair` meets its contract.
 use borrow.Author.Tests.{le-leb, lt-leb}
 use Rattle.encode.proofs.Widest.{fits_2}
-use borrow.Author.Rules.{rules}
 use Rattle.encode.proofs.fits_pair.Goals as goal
 
 pub returns-then-x-le32767 : goal.returns-then-x-le32767

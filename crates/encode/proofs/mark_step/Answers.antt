@@ -1,5 +1,4 @@
 -- `encode::mark_step` meets its contract.
-use borrow.Author.Rules.{rules}
 use Rattle.encode.proofs.mark_step.Goals as goal
 
 pub returns-then-is_mark : goal.returns-then-is_mark

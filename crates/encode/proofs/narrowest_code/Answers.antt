@@ -1,6 +1,5 @@
 -- `encode::narrowest_code` meets its contract.
 use Rattle.encode.proofs.Widest.{narrowest_range}
-use borrow.Author.Rules.{rules}
 use Rattle.encode.proofs.narrowest_code.Goals as goal
 
 pub returns : goal.returns

@@ -3,12 +3,11 @@ use mathlib.Core.Path.{◌≡◌, ◌∙◌, sym}
 use mathlib.Core.List.{◌∷◌}
 use Prim.Native.Nat.{◌+◌, ◌%◌, ◌<◌, ◌≤◌}
 use native.Mathlib.Omega.{arith}
-use lib.ListN.{length, length-set}
-use borrow.Author.Tests.{lt-ltb, le-ltb, not-true, not-false}
+use lib.ListN.{length}
+use borrow.Author.Tests.{lt-ltb, le-ltb}
 use Rattle.stores.proofs.Room.{fits_short, fits_room, filled_short, filled_room, room_short, room_there, fits_on, filled_on}
 use Rattle.encode.specs.Encode.{descriptor_bytes, integer_bytes}
 use Rattle.encode.proofs.Lengths.{length_descriptor_bytes, length_descriptor_any}
-use borrow.Author.Rules.{rules}
 use Rattle.encode.proofs.put_descriptor.Goals as goal
 
 pub returns-then-not-has_room : goal.returns-then-not-has_room

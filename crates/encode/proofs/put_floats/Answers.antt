@@ -1,17 +1,14 @@
 -- `encode::put_floats` meets its contract. The loop's invariant: all elements stored are those that are left, stored from here on.
 use mathlib.Core.Path.{◌≡◌, ◌∙◌, sym, refl}
-use Prim.Native.Nat.{◌+◌, ◌-◌, ◌*◌, ◌<◌, ◌≤◌}
+use Prim.Native.Nat.{◌+◌, ◌*◌, ◌<◌, ◌≤◌}
 use native.Mathlib.Omega.{arith}
 use native.Mathlib.Nat.{sub-zero}
-use lib.ListN.{length, drop}
-use lib.Seq.{sets}
-use borrow.Author.Tests.{not-true, not-false}
+use lib.ListN.{length}
 use Rattle.types.specs.Rows.{width_of, row_of}
 use Rattle.stores.proofs.Room.{fits_short, fits_room, filled_short, filled_room, room_short, room_there}
 use Rattle.encode.specs.Encode.{narrowed, elements_bytes}
 use Rattle.encode.proofs.Lengths.{length_elements_bytes}
 use Rattle.encode.proofs.Turns.{elements_turn, elements_end}
-use borrow.Author.Rules.{rules}
 use Rattle.encode.proofs.put_floats.Goals as goal
 
 pub returns-then-not-has_room : goal.returns-then-not-has_room

@@ -1,18 +1,15 @@
 -- `encode::put_fours` meets its contract. The loop's invariant: all elements stored are those that are left, stored from here on.
 use mathlib.Core.Path.{◌≡◌, ◌∙◌, sym}
 use mathlib.Core.List.{map}
-use Prim.Native.Nat.{◌+◌, ◌-◌, ◌*◌, ◌≤◌}
 use native.Mathlib.Omega.{arith}
 use lib.IntN.{pos}
-use lib.ListN.{length, drop, get_or, length-map}
-use lib.Seq.{sets}
+use lib.ListN.{get_or, length-map}
 use mir.Syntax.{w32}
 use mir.Val.{of_z}
 use Rattle.words.proofs.Sign.{bits_back}
 use Rattle.types.specs.Rows.{width_of, row_of}
 use Rattle.encode.proofs.Turns.{elements_turn_bits, elements_end}
-use Rattle.encode.specs.Encode.{narrowed, elements_bytes}
-use borrow.Author.Rules.{rules}
+use Rattle.encode.specs.Encode.{narrowed}
 use Rattle.encode.proofs.put_fours.Goals as goal
 
 pub loop-i-preserved : goal.loop-i-preserved

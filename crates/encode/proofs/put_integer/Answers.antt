@@ -2,8 +2,7 @@
 use mathlib.Core.Path.{◌≡◌, ◌∙◌, sym}
 use Prim.Native.Nat.{◌+◌, ◌<◌, ◌≤◌}
 use native.Mathlib.Omega.{arith}
-use lib.ListN.{length, length-set}
-use borrow.Author.Tests.{not-true, not-false}
+use lib.ListN.{length}
 use Rattle.words.specs.Words.{bytes}
 use Rattle.words.proofs.Words.{length_bytes}
 use Rattle.types.specs.Rows.{width_of}
@@ -11,7 +10,6 @@ use Rattle.types.specs.Elements.{narrowest}
 use Rattle.stores.proofs.Room.{fits_short, filled_short, room_short, room_there, fits_on, filled_on}
 use Rattle.encode.specs.Encode.{integer_bytes}
 use Rattle.encode.proofs.Lengths.{length_integer_bytes}
-use borrow.Author.Rules.{rules}
 use Rattle.encode.proofs.put_integer.Goals as goal
 
 pub returns-then-not-has_room : goal.returns-then-not-has_room

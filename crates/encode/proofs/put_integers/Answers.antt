@@ -7,12 +7,10 @@ use native.Mathlib.Nat.{mul-le-mul_left}
 use lib.ListN.{length, length-map}
 use mir.Syntax.{w32}
 use mir.Val.{of_z}
-use borrow.Author.Tests.{not-true, not-false}
 use Rattle.types.specs.Rows.{width_of, row_of}
 use Rattle.stores.proofs.Room.{fits_short, filled_short, room_short, room_there}
 use Rattle.encode.specs.Encode.{elements_bytes}
 use Rattle.encode.proofs.Lengths.{length_elements_bytes, integers_stored}
-use borrow.Author.Rules.{rules}
 use Rattle.encode.proofs.put_integers.Goals as goal
 
 pub overflow_mul-values : goal.overflow_mul-values

@@ -1,7 +1,7 @@
 -- `encode::put_others` meets its contract. The loop's invariant: all elements stored are those that are left, stored from here on.
 use mathlib.Core.Path.{◌≡◌, ◌∙◌, sym, refl}
 use mathlib.Core.List.{map}
-use Prim.Native.Nat.{◌+◌, ◌-◌, ◌*◌, ◌≤◌}
+use Prim.Native.Nat.{◌+◌}
 use native.Mathlib.Omega.{arith}
 use lib.IntN.{pos}
 use lib.ListN.{length, drop, get_or, length-map}
@@ -14,7 +14,6 @@ use native.Mathlib.Nat.{sub-zero}
 use Rattle.encode.proofs.Marks.{other_narrowed}
 use Rattle.encode.proofs.Turns.{element_room, elements_turn_bits, elements_end}
 use Rattle.encode.specs.Encode.{elements_bytes}
-use borrow.Author.Rules.{rules}
 use Rattle.encode.proofs.put_others.Goals as goal
 
 pub loop-i-init : goal.loop-i-init

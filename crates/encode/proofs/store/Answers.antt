@@ -4,7 +4,6 @@ use native.Mathlib.Omega.{arith}
 use native.Mathlib.Numerals.{towards_suc}
 use lib.ListN.{length-set}
 use Rattle.words.specs.Words.{bytes}
-use borrow.Author.Rules.{rules}
 use Rattle.encode.proofs.store.Goals as goal
 
 pub bounds-buf-at-then-width-eq4 : goal.bounds-buf-at-then-width-eq4

@@ -2,7 +2,6 @@
 use mathlib.Core.Path.{◌∙◌, sym}
 use native.Mathlib.Omega.{arith}
 use Rattle.encode.proofs.Widest.{widest_1, widest_2, widest_3}
-use borrow.Author.Rules.{rules}
 use Rattle.encode.proofs.widest_type.Goals as goal
 
 pub returns-then-all_bytes : goal.returns-then-all_bytes

@@ -1,7 +1,5 @@
 -- `fetch::fetch` meets its contract.
-use mathlib.Core.Path.{◌∙◌, ap}
-use Rattle.fetch.specs.Fetch.{part_of, start_of, fetched, fetched_at}
-use borrow.Author.Rules.{rules}
+use Rattle.fetch.specs.Fetch.{fetched, fetched_at}
 use Rattle.fetch.proofs.fetch.Goals as goal
 
 pub returns : goal.returns

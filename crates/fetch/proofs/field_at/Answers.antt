@@ -1,5 +1,4 @@
 -- `fetch::field_at` meets its contract.
-use borrow.Author.Rules.{rules}
 use Rattle.fetch.proofs.field_at.Goals as goal
 
 pub returns-in-Id : goal.returns-in-Id

@@ -4,7 +4,6 @@ use lib.ListN.{length}
 use Rattle.words.proofs.Places.{drop_on}
 use Rattle.fetch.specs.Engine.{field_in}
 use Rattle.fetch.proofs.Fields.{found_on}
-use borrow.Author.Rules.{rules}
 use Rattle.fetch.proofs.field_in.Goals as goal
 
 pub returns-in_default : goal.returns-in_default

@@ -1,14 +1,10 @@
 -- `fetch::field_of` meets its contract.
-use mathlib.Core.Path.{◌≡◌, refl, sym, ◌∙◌, ap}
-use mathlib.Core.List.{List}
-use Prim.Native.Nat.{ℕ}
 use native.Mathlib.Omega.{arith}
-use lib.ListN.{length, take, drop, length-take}
+use lib.ListN.{length, length-take}
 use borrow.Author.Tests.{le-leb, lt-leb}
 use Rattle.fetch.specs.Engine.{field_in, or_none}
 use Rattle.fetch.proofs.Account.{field_number}
-use Rattle.fetch.proofs.Fields.{found_on, none_inside}
-use borrow.Author.Rules.{rules}
+use Rattle.fetch.proofs.Fields.{none_inside}
 use Rattle.fetch.proofs.field_of.Goals as goal
 
 pub returns-then-count_of-number : goal.returns-then-count_of-number

@@ -1,6 +1,5 @@
 -- `fetch::find` meets its contract.
 use Rattle.fetch.specs.Fetch.{found}
-use borrow.Author.Rules.{rules}
 use Rattle.fetch.proofs.find.Goals as goal
 
 pub returns-in_default : goal.returns-in_default

@@ -1,5 +1,4 @@
 -- `fetch::found_refusal` meets its contract.
-use borrow.Author.Rules.{rules}
 use Rattle.fetch.proofs.found_refusal.Goals as goal
 
 pub returns-in-Field : goal.returns-in-Field

@@ -4,7 +4,6 @@ use lib.ListN.{length}
 use Rattle.words.proofs.Places.{drop_on}
 use Rattle.fetch.specs.Fields.{paired}
 use Rattle.fetch.proofs.Fields.{value_found}
-use borrow.Author.Rules.{rules}
 use Rattle.fetch.proofs.key_and_value.Goals as goal
 
 pub returns-in_default : goal.returns-in_default

@@ -1,6 +1,5 @@
 -- `fetch::part_of` meets its contract.
 use Rattle.fetch.specs.Fetch.{field_of}
-use borrow.Author.Rules.{rules}
 use Rattle.fetch.proofs.part_of.Goals as goal
 
 pub returns : goal.returns

@@ -1,5 +1,4 @@
 -- `fetch::past_field` meets its contract.
-use borrow.Author.Rules.{rules}
 use Rattle.fetch.proofs.past_field.Goals as goal
 
 pub returns-in-Field : goal.returns-in-Field

@@ -1,13 +1,11 @@
 -- `fetch::skip` meets its contract. The loop's invariant: the fields from the start on are those that are left, from a place in the block.
 use mathlib.Core.Path.{◌≡◌, ◌∙◌}
-use Prim.Native.Nat.{◌≤◌, max}
 use native.Mathlib.Omega.{arith}
-use lib.ListN.{drop, length}
+use lib.ListN.{length}
 use Rattle.words.proofs.Places.{drop_on}
 use Rattle.site.specs.Steps.{times}
 use Rattle.fetch.specs.Engine.{passing, past}
 use Rattle.fetch.proofs.Fields.{found_step, past_turn}
-use borrow.Author.Rules.{rules}
 use Rattle.fetch.proofs.skip.Goals as goal
 
 pub returns-in_default : goal.returns-in_default

@@ -3,7 +3,6 @@ use lib.ListN.{length}
 use Rattle.words.proofs.Places.{drop_on}
 use Rattle.fetch.specs.Engine.{to_field}
 use Rattle.fetch.proofs.Fields.{step_on}
-use borrow.Author.Rules.{rules}
 use Rattle.fetch.proofs.to_field.Goals as goal
 
 pub returns-in_default : goal.returns-in_default

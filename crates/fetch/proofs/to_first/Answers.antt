@@ -1,7 +1,6 @@
 -- `fetch::to_first` meets its contract.
 use mathlib.Core.Path.{refl}
 use native.Mathlib.Omega.{arith}
-use borrow.Author.Rules.{rules}
 use Rattle.fetch.proofs.to_first.Goals as goal
 
 pub returns-in-Id : goal.returns-in-Id

@@ -2,7 +2,6 @@
 use mathlib.Core.Path.{refl, sym}
 use native.Mathlib.Omega.{arith}
 use lib.Seq.{length-take-le, take_all}
-use borrow.Author.Rules.{rules}
 use Rattle.fetch.proofs.up_to.Goals as goal
 
 pub returns-then-s-end : goal.returns-then-s-end

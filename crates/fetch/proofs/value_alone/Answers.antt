@@ -3,7 +3,6 @@ use native.Mathlib.Omega.{arith}
 use lib.ListN.{length}
 use Rattle.fetch.specs.Fields.{alone}
 use Rattle.fetch.proofs.Fields.{value_found}
-use borrow.Author.Rules.{rules}
 use Rattle.fetch.proofs.value_alone.Goals as goal
 
 pub returns : goal.returns

@@ -1,5 +1,4 @@
 -- `fetch::value_field` meets its contract.
-use borrow.Author.Rules.{rules}
 use Rattle.fetch.proofs.value_field.Goals as goal
 
 pub returns-in-Present : goal.returns-in-Present

@@ -1,5 +1,4 @@
 -- `fixed::blocks_refusal` meets its contract.
-use borrow.Author.Rules.{rules}
 use Rattle.fixed.proofs.blocks_refusal.Goals as goal
 
 pub returns-in-Lent : goal.returns-in-Lent

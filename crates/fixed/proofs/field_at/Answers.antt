@@ -4,7 +4,6 @@ use native.Mathlib.Omega.{arith}
 use lib.ListN.{drop}
 use Rattle.words.proofs.Words.{number_part}
 use Rattle.fixed.specs.Layout.{field}
-use borrow.Author.Rules.{rules}
 use Rattle.fixed.proofs.field_at.Goals as goal
 
 pub returns : goal.returns

@@ -1,5 +1,4 @@
 -- `fixed::fixed_refusal` meets its contract.
-use borrow.Author.Rules.{rules}
 use Rattle.fixed.proofs.fixed_refusal.Goals as goal
 
 pub returns-in-Site : goal.returns-in-Site

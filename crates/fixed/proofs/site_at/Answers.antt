@@ -1,6 +1,5 @@
 -- `fixed::site_at` meets its contract.
 use Rattle.fixed.specs.Fixed.{site_at}
-use borrow.Author.Rules.{rules}
 use Rattle.fixed.proofs.site_at.Goals as goal
 
 pub returns : goal.returns

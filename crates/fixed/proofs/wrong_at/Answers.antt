@@ -1,7 +1,6 @@
 -- `fixed::wrong_at` meets its contract.
 use borrow.Author.Tests.{eq-eqb, le-leb, lt-leb, ne_eqb}
 use Rattle.fixed.specs.Fixed.{wrong_at}
-use borrow.Author.Rules.{rules}
 use Rattle.fixed.proofs.wrong_at.Goals as goal
 
 pub returns-then-is_outside : goal.returns-then-is_outside

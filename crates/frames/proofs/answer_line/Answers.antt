@@ -7,7 +7,6 @@ use Rattle.hexadecimal.specs.Hexadecimal.{frame_of}
 use Rattle.frames.specs.Frames.{line_said, line_said_in, decoded}
 use Rattle.frames.specs.declared.Answer.TheVariants.{Text}
 use Rattle.frames.proofs.Answers.{frame_bad, frame_short, frame_fits, answer_bytes, answer_bad}
-use borrow.Author.Rules.{rules}
 use Rattle.frames.proofs.answer_line.Goals as goal
 
 pub returns-then-out-lt-TEXT_ROOM : goal.returns-then-out-lt-TEXT_ROOM

@@ -2,7 +2,6 @@
 use native.Mathlib.Omega.{arith}
 use Rattle.frames.specs.Text.{bad_line}
 use Rattle.frames.proofs.Behind.{behind}
-use borrow.Author.Rules.{rules}
 use Rattle.frames.proofs.bad_step.Goals as goal
 
 pub returns : goal.returns

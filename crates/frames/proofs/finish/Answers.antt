@@ -4,7 +4,6 @@ use native.Mathlib.Omega.{arith}
 use native.Mathlib.Nat.{add-zero}
 use Rattle.stores.proofs.Room.{room_there}
 use Rattle.frames.specs.Steps.{finished, finished_out, stage_at_end, end_text}
-use borrow.Author.Rules.{rules}
 use Rattle.frames.proofs.finish.Goals as goal
 
 pub bad_step-requires : goal.bad_step-requires

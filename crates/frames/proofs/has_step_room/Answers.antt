@@ -1,7 +1,6 @@
 -- `frames::has_step_room` meets its contract.
 use borrow.Author.Tests.{lt-ltb, le-ltb}
 use Rattle.frames.specs.Steps.{step_room}
-use borrow.Author.Rules.{rules}
 use Rattle.frames.proofs.has_step_room.Goals as goal
 
 pub returns-then-frame-lt-FRAME_ROOM : goal.returns-then-frame-lt-FRAME_ROOM

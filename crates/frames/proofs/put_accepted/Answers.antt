@@ -5,7 +5,6 @@ use lib.ListN.{length, length-take}
 use lib.Seq.{length-take-le}
 use Rattle.tally.proofs.Parts.{calls_of_length}
 use Rattle.frames.proofs.Answers.{accepted_many, accepted_few}
-use borrow.Author.Rules.{rules}
 use Rattle.frames.proofs.put_accepted.Goals as goal
 
 pub returns-then-alleles-gt64 : goal.returns-then-alleles-gt64

@@ -1,7 +1,6 @@
 -- `frames::put_bad` meets its contract.
 use native.Mathlib.Omega.{arith}
 use lib.ListN.{length-set}
-use borrow.Author.Rules.{rules}
 use Rattle.frames.proofs.put_bad.Goals as goal
 
 pub bounds-out-1 : goal.bounds-out-1

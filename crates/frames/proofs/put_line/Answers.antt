@@ -5,7 +5,6 @@ use lib.ListN.{length, set, length-set}
 use lib.Seq.{sets, length-sets}
 use Rattle.frames.specs.Text.{spaced}
 use Rattle.frames.proofs.Texts.{line_stored, length_line}
-use borrow.Author.Rules.{rules}
 use Rattle.frames.proofs.put_line.Goals as goal
 
 pub bounds-out-1 : goal.bounds-out-1

@@ -1,7 +1,6 @@
 -- `frames::put_numbers` meets its contract. The loop's invariant: the numbers are stored as those that are left, which have room.
 use mathlib.Core.Path.{◌≡◌, ◌∙◌, ap, sym}
-use mathlib.Core.List.{[]}
-use Prim.Native.Nat.{suc, ◌+◌, ◌-◌, ◌*◌, ◌≤◌}
+use Prim.Native.Nat.{suc, ◌+◌, ◌*◌, ◌≤◌}
 use lib.ListN.{drop, get_or, length, set, drop_of_length-le, length-append, length-set}
 use lib.Seq.{sets, length-sets}
 use Rattle.decimal.specs.Decimal.{decimal}
@@ -11,7 +10,6 @@ use native.Mathlib.Omega.{arith}
 use Rattle.frames.specs.Text.{spaced}
 use Rattle.stores.proofs.Room.{filled_room}
 use Rattle.frames.proofs.Texts.{placed_room, spaced_turn, spaced_stored}
-use borrow.Author.Rules.{rules}
 use Rattle.frames.proofs.put_numbers.Goals as goal
 
 pub loop-i-preserved : goal.loop-i-preserved

@@ -2,7 +2,6 @@
 use native.Mathlib.Omega.{arith}
 use borrow.Author.Tests.{lt-ltb, le-ltb}
 use Rattle.frames.specs.Frames.{record_line}
-use borrow.Author.Rules.{rules}
 use Rattle.frames.proofs.put_record.Goals as goal
 
 pub returns-in_default : goal.returns-in_default

@@ -8,7 +8,6 @@ use Rattle.frames.specs.Frames.{answer_told, answer_line}
 use Rattle.frames.specs.declared.Answer.{Answer}
 use Rattle.frames.proofs.Steps.{said_there, said_in_there, decoded_there}
 use Rattle.frames.proofs.Behind.{behind}
-use borrow.Author.Rules.{rules}
 use Rattle.frames.proofs.record_step.Goals as goal
 
 -- the text's length, which is told, and that it lies behind what waits

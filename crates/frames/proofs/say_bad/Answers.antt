@@ -4,7 +4,6 @@ use native.Mathlib.Omega.{arith}
 use borrow.Author.Tests.{lt-ltb, le-ltb}
 use Rattle.frames.specs.Frames.{said, said_in}
 use Rattle.frames.specs.declared.Answer.TheVariants.{Text}
-use borrow.Author.Rules.{rules}
 use Rattle.frames.proofs.say_bad.Goals as goal
 
 pub returns-then-out-lt-TEXT_ROOM : goal.returns-then-out-lt-TEXT_ROOM

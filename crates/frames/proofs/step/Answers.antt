@@ -4,7 +4,6 @@ use native.Mathlib.Omega.{arith}
 use native.Mathlib.Nat.{add-zero}
 use Rattle.frames.specs.Steps.{stepped, stepped_out, stepped_frame, stage_after, line_text}
 use Rattle.frames.proofs.Steps.{step_rooms}
-use borrow.Author.Rules.{rules}
 use Rattle.frames.proofs.step.Goals as goal
 
 pub first_step-requires : goal.first_step-requires

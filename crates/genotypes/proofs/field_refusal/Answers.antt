@@ -1,5 +1,4 @@
 -- `genotypes::field_refusal` meets its contract.
-use borrow.Author.Rules.{rules}
 use Rattle.genotypes.proofs.field_refusal.Goals as goal
 
 pub returns-in-Whole : goal.returns-in-Whole

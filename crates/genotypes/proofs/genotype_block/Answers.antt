@@ -1,14 +1,10 @@
 -- `genotypes::genotype_block` meets its contract. The loop's invariant: the fields from the start on are those that are left, after the keys in the array.
 use mathlib.Core.Path.{◌≡◌, ◌∙◌, sym}
-use mathlib.Core.List.{[]}
-use Prim.Native.Nat.{◌+◌}
 use native.Mathlib.Omega.{arith}
-use lib.ListN.{drop, length, take, length-set}
+use lib.ListN.{length-set}
 use lib.Seq.{length-take-le}
 use borrow.Author.Tests.{le-leb, lt-leb}
-use Rattle.genotypes.specs.Formats.{formats, no_gt}
 use Rattle.genotypes.proofs.Turns.{formats_turn, formats_field, formats_end, keys_more}
-use borrow.Author.Rules.{rules}
 use Rattle.genotypes.proofs.genotype_block.Goals as goal
 
 pub slice_bounds-format_at-end : goal.slice_bounds-format_at-end

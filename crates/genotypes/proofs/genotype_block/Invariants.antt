@@ -1,17 +1,10 @@
 -- `genotypes::genotype_block` meets its contract. The loop's invariant: the fields from the start on are those that are left, after the keys in the array.
-use mathlib.Core.Path.{◌≡◌, ◌∙◌, sym}
-use mathlib.Core.List.{[]}
+use mathlib.Core.Path.{◌≡◌}
 use Prim.Native.Nat.{◌+◌}
-use native.Mathlib.Omega.{arith}
-use lib.ListN.{drop, length, take, length-set}
-use lib.Seq.{length-take-le}
-use borrow.Author.Tests.{le-leb, lt-leb}
+use lib.ListN.{drop, length, take}
 use Rattle.genotypes.specs.Formats.{formats, no_gt}
-use Rattle.genotypes.proofs.Turns.{formats_turn, formats_field, formats_end, keys_more}
-use borrow.Author.Rules.{rules}
 use Rattle.genotypes.proofs.genotype_block.Given as goal
 
--- `genotypes::genotype_block` meets its contract. The loop's invariant: the fields from the start on are those that are left, after the keys in the array.
 abbrev pub invariant-loop-left : goal.invariant-loop-left
 invariant-loop-left l =
     (formats l.facts.strings l.facts.people l.facts.gt l.alleles l.count [] no_gt l.from (drop l.from l.block)

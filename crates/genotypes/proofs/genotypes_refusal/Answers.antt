@@ -1,5 +1,4 @@
 -- `genotypes::genotypes_refusal` meets its contract.
-use borrow.Author.Rules.{rules}
 use Rattle.genotypes.proofs.genotypes_refusal.Goals as goal
 
 pub returns-in-Sound : goal.returns-in-Sound

@@ -1,6 +1,6 @@
 -- `genotypes::gt_part` meets its contract.
-use mathlib.Core.Path.{◌≡◌, sym, ◌∙◌}
-use Prim.Native.Nat.{◌+◌, ◌-◌, ◌*◌, ◌^◌, ◌<◌, ◌≤◌}
+use mathlib.Core.Path.{sym, ◌∙◌}
+use Prim.Native.Nat.{◌+◌, ◌*◌, ◌^◌, ◌<◌, ◌≤◌}
 use native.Mathlib.Omega.{arith}
 use native.Mathlib.Nat.{add-sub_cancel_left, sub_self}
 use lib.ListN.{length}
@@ -8,7 +8,6 @@ use borrow.Author.Tests.{leb-true, leb-false}
 use Rattle.types.specs.Rows.{width_of}
 use Rattle.values.proofs.Room.{prod}
 use Rattle.genotypes.proofs.Parts.{part_past, part_rest, place_inside, place_past}
-use borrow.Author.Rules.{rules}
 use Rattle.genotypes.proofs.gt_part.Goals as goal
 
 pub overflow_mul-count : goal.overflow_mul-count

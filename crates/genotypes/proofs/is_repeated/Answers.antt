@@ -1,11 +1,8 @@
 -- `genotypes::is_repeated` meets its contract. The loop's invariant: the key is among all earlier ones as it is among those before here, which are whole rows.
 use mathlib.Core.Path.{◌≡◌, ◌∙◌}
-use Prim.Native.Nat.{◌%◌, ◌≤◌}
 use native.Mathlib.Omega.{arith}
-use lib.ListN.{length, take}
 use Rattle.words.specs.Lists.{among}
 use Rattle.genotypes.proofs.Earlier.{nearest_of_all, nearest_row}
-use borrow.Author.Rules.{rules}
 use Rattle.genotypes.proofs.is_repeated.Goals as goal
 
 pub returns-then-few_have : goal.returns-then-few_have

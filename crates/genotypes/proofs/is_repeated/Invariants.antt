@@ -1,14 +1,10 @@
 -- `genotypes::is_repeated` meets its contract. The loop's invariant: the key is among all earlier ones as it is among those before here, which are whole rows.
-use mathlib.Core.Path.{◌≡◌, ◌∙◌}
+use mathlib.Core.Path.{◌≡◌}
 use Prim.Native.Nat.{◌%◌, ◌≤◌}
-use native.Mathlib.Omega.{arith}
 use lib.ListN.{length, take}
 use Rattle.words.specs.Lists.{among}
-use Rattle.genotypes.proofs.Earlier.{nearest_of_all, nearest_row}
-use borrow.Author.Rules.{rules}
 use Rattle.genotypes.proofs.is_repeated.Given as goal
 
--- `genotypes::is_repeated` meets its contract. The loop's invariant: the key is among all earlier ones as it is among those before here, which are whole rows.
 abbrev pub invariant-loop-i : goal.invariant-loop-i
 invariant-loop-i l =
     (among l.key l.earlier ≡ among l.key (take l.i l.earlier)) × (l.i ≤ length l.earlier) × (l.i % 4 ≡ 0)

@@ -1,15 +1,12 @@
 -- `genotypes::row_has` meets its contract. The loop's invariant: the row has the key where it was met, or where those left have it.
-use mathlib.Core.Path.{◌≡◌, ◌∙◌, sym}
+use mathlib.Core.Path.{◌∙◌, sym}
 use mathlib.Core.Bool.{true}
-use Prim.Native.Nat.{◌-◌, ◌≤◌}
 use native.Mathlib.Omega.{arith}
-use lib.ListN.{drop, length, drop_of_length-le}
+use lib.ListN.{drop_of_length-le}
 use borrow.Author.Tests.{eq-eqb, ne_eqb}
 use Rattle.words.specs.Lists.{among}
-use Rattle.words.specs.Pick.{pick}
 use Rattle.words.proofs.Pick.{pick_test}
 use Rattle.genotypes.proofs.Earlier.{sweep_turn}
-use borrow.Author.Rules.{rules}
 use Rattle.genotypes.proofs.row_has.Goals as goal
 use Rattle.genotypes.proofs.row_has.Goals.{then-row-i, else-row-i}
 

@@ -1,12 +1,10 @@
 -- `all_digits`: what is left of the line decides, at each turn, what the whole line does. Rests on proofs/Digits.
-use mathlib.Core.Path.{◌≡◌, ◌∙◌}
-use Prim.Native.Nat.{◌-◌, ◌≤◌}
+use mathlib.Core.Path.{◌∙◌}
 use native.Mathlib.Omega.{arith}
-use lib.ListN.{length, drop, drop_of_length-le}
+use lib.ListN.{drop_of_length-le}
 use borrow.Author.Tests.{le-leb, lt-leb}
 use Rattle.hexadecimal.specs.Hexadecimal.{digits}
 use Rattle.hexadecimal.proofs.Digits.{digits_turn}
-use borrow.Author.Rules.{rules}
 use Rattle.hexadecimal.proofs.all_digits.Goals as goal
 
 pub returns-then-digit_of-ge16 : goal.returns-then-digit_of-ge16

@@ -1,15 +1,10 @@
 -- `all_digits`: what is left of the line decides, at each turn, what the whole line does. Rests on proofs/Digits.
-use mathlib.Core.Path.{◌≡◌, ◌∙◌}
+use mathlib.Core.Path.{◌≡◌}
 use Prim.Native.Nat.{◌-◌, ◌≤◌}
-use native.Mathlib.Omega.{arith}
-use lib.ListN.{length, drop, drop_of_length-le}
-use borrow.Author.Tests.{le-leb, lt-leb}
+use lib.ListN.{length, drop}
 use Rattle.hexadecimal.specs.Hexadecimal.{digits}
-use Rattle.hexadecimal.proofs.Digits.{digits_turn}
-use borrow.Author.Rules.{rules}
 use Rattle.hexadecimal.proofs.all_digits.Given as goal
 
--- `all_digits`: what is left of the line decides, at each turn, what the whole line does. Rests on proofs/Digits.
 abbrev pub invariant-loop-i : goal.invariant-loop-i
 invariant-loop-i l = (digits l.line ≡ digits (drop l.i l.line)) × (l.i ≤ length l.line)
 

@@ -4,7 +4,6 @@ use native.Mathlib.Omega.{arith}
 use borrow.Author.Tests.{lt-ltb, le-ltb}
 use Rattle.hexadecimal.proofs.Digits.{length_line_bytes}
 use Rattle.hexadecimal.proofs.Frames.{frame_long, frame_odd, frame_other, frame_good}
-use borrow.Author.Rules.{rules}
 use Rattle.hexadecimal.proofs.decode.Goals as goal
 
 pub returns-then-line-gt-MOST_DIGITS : goal.returns-then-line-gt-MOST_DIGITS

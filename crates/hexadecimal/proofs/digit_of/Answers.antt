@@ -1,7 +1,6 @@
 -- `digit_of` answers what the table holds at the character. Rests on proofs/Table.
 use native.Mathlib.Omega.{arith}
 use Rattle.hexadecimal.proofs.Table.{entry}
-use borrow.Author.Rules.{rules}
 use Rattle.hexadecimal.proofs.digit_of.Goals as goal
 
 pub returns : goal.returns

@@ -3,7 +3,6 @@ use mathlib.Core.Path.{sym, ◌∙◌}
 use native.Mathlib.Omega.{arith}
 use borrow.Author.Tests.{eq-eqb, ne_eqb}
 use Rattle.hexadecimal.specs.Hexadecimal.{facts_of}
-use borrow.Author.Rules.{rules}
 use Rattle.hexadecimal.proofs.facts_of.Goals as goal
 
 pub number_at-requires : goal.number_at-requires

@@ -1,7 +1,6 @@
 -- `number_at`: four bytes are the number of their eight digits. Rests on proofs/Digits.
 use native.Mathlib.Omega.{arith}
 use Rattle.hexadecimal.proofs.Digits.{eight_at}
-use borrow.Author.Rules.{rules}
 use Rattle.hexadecimal.proofs.number_at.Goals as goal
 
 pub returns : goal.returns

@@ -4,7 +4,6 @@ use native.Mathlib.Omega.{arith}
 use borrow.Author.Tests.{lt-ltb, le-ltb}
 use Rattle.hexadecimal.proofs.Choices.{choice_long, choice_part, choice_other, choice_good}
 use Rattle.hexadecimal.proofs.Digits.{length_eights}
-use borrow.Author.Rules.{rules}
 use Rattle.hexadecimal.proofs.read_choice.Goals as goal
 
 pub returns-then-line-gt-MOST_CHOICE_DIGITS : goal.returns-then-line-gt-MOST_CHOICE_DIGITS

@@ -1,13 +1,11 @@
 -- `store`: what is left of the line, stored from where the loop stands, makes the whole buffer. Rests on proofs/Digits.
-use mathlib.Core.Path.{◌≡◌, ◌∙◌}
-use Prim.Native.Nat.{◌+◌, ◌-◌, ◌*◌, ◌<◌, ◌≤◌}
+use mathlib.Core.Path.{◌∙◌}
+use Prim.Native.Nat.{◌+◌, ◌<◌}
 use native.Mathlib.Omega.{arith}
 use native.Mathlib.Numerals.{add-one}
-use lib.ListN.{length, drop, length-set, drop_of_length-le}
-use lib.Seq.{sets}
+use lib.ListN.{length, length-set, drop_of_length-le}
 use Rattle.hexadecimal.specs.Hexadecimal.{line_bytes}
 use Rattle.hexadecimal.proofs.Digits.{paired_turn}
-use borrow.Author.Rules.{rules}
 use Rattle.hexadecimal.proofs.store.Goals as goal
 
 pub loop-i-preserved : goal.loop-i-preserved

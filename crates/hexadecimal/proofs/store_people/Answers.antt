@@ -1,13 +1,10 @@
 -- `hexadecimal::store_people` meets its contract. The loop's invariant: all people stored are the people that are left stored from here on.
 use mathlib.Core.Path.{◌≡◌, ◌∙◌, sym}
-use Prim.Native.Nat.{◌+◌, ◌*◌}
 use native.Mathlib.Omega.{arith}
 use native.Mathlib.Numerals.{add-one}
-use lib.ListN.{length, drop, length-set}
-use lib.Seq.{sets}
+use lib.ListN.{length-set}
 use Rattle.hexadecimal.specs.Hexadecimal.{eights}
 use Rattle.hexadecimal.proofs.Digits.{eights_turn}
-use borrow.Author.Rules.{rules}
 use Rattle.hexadecimal.proofs.store_people.Goals as goal
 
 pub loop-left-preserved : goal.loop-left-preserved

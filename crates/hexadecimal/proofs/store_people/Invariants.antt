@@ -1,16 +1,11 @@
 -- `hexadecimal::store_people` meets its contract. The loop's invariant: all people stored are the people that are left stored from here on.
-use mathlib.Core.Path.{◌≡◌, ◌∙◌, sym}
+use mathlib.Core.Path.{◌≡◌}
 use Prim.Native.Nat.{◌+◌, ◌*◌}
-use native.Mathlib.Omega.{arith}
-use native.Mathlib.Numerals.{add-one}
-use lib.ListN.{length, drop, length-set}
+use lib.ListN.{length, drop}
 use lib.Seq.{sets}
 use Rattle.hexadecimal.specs.Hexadecimal.{eights}
-use Rattle.hexadecimal.proofs.Digits.{eights_turn}
-use borrow.Author.Rules.{rules}
 use Rattle.hexadecimal.proofs.store_people.Given as goal
 
--- `hexadecimal::store_people` meets its contract. The loop's invariant: all people stored are the people that are left stored from here on.
 abbrev pub invariant-loop-left : goal.invariant-loop-left
 invariant-loop-left l =
     (sets l.initial.choice 0 (eights l.n l.line) ≡ sets l.choice l.o (eights l.left (drop l.at l.line)))

@@ -4,7 +4,6 @@ use native.Mathlib.Omega.{arith}
 use lib.Seq.{length-take-le}
 use Rattle.stores.proofs.Room.{filled_room}
 use Rattle.lines.proofs.Lines.{fitting_none, fitting_all, length_fitting, fitting_stored}
-use borrow.Author.Rules.{rules}
 use Rattle.lines.proofs.hold.Goals as goal
 
 pub returns-then-line-held : goal.returns-then-line-held

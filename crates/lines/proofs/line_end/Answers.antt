@@ -1,11 +1,6 @@
 -- `lines::line_end` meets its contract. The loop's invariant: the line ends where it ends from here on.
-use mathlib.Core.Path.{◌≡◌}
-use Prim.Native.Nat.{◌+◌, ◌-◌, ◌≤◌}
 use native.Mathlib.Omega.{arith}
-use lib.ListN.{length, drop}
-use Rattle.lines.specs.Lines.{line_length}
 use Rattle.lines.proofs.Lines.{length_here, length_later, length_end}
-use borrow.Author.Rules.{rules}
 use Rattle.lines.proofs.line_end.Goals as goal
 
 pub returns-then-piece-at-eq10 : goal.returns-then-piece-at-eq10

@@ -4,7 +4,6 @@ use native.Mathlib.Omega.{arith}
 use lib.ListN.{length, drop}
 use Rattle.lines.specs.Lines.{line_length, taken_into}
 use Rattle.lines.proofs.Next.{taken_past, into_past, added_to, taken_line, taken_part}
-use borrow.Author.Rules.{rules}
 use Rattle.lines.proofs.take.Goals as goal
 
 pub returns-then-piece-at : goal.returns-then-piece-at

@@ -1,7 +1,6 @@
 -- `names::before_zero` meets its contract.
 use mathlib.Core.Path.{sym}
 use lib.Seq.{length-take-le}
-use borrow.Author.Rules.{rules}
 use Rattle.names.proofs.before_zero.Goals as goal
 
 pub slice_bounds-result-end : goal.slice_bounds-result-end

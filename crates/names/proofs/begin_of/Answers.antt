@@ -1,7 +1,6 @@
 -- `names::begin_of` meets its contract.
 use mathlib.Core.Path.{◌∙◌}
 use Rattle.names.proofs.Names.{begin_after}
-use borrow.Author.Rules.{rules}
 use Rattle.names.proofs.begin_of.Goals as goal
 
 pub returns : goal.returns

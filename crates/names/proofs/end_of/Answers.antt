@@ -1,7 +1,6 @@
 -- `names::end_of` meets its contract.
 use mathlib.Core.Path.{sym}
 use Rattle.words.proofs.Words.{past}
-use borrow.Author.Rules.{rules}
 use Rattle.names.proofs.end_of.Goals as goal
 
 pub returns-then-ends-k : goal.returns-then-ends-k

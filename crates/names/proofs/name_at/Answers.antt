@@ -2,7 +2,6 @@
 use native.Mathlib.Nat.{sub_self}
 use native.Mathlib.Omega.{arith}
 use Rattle.names.proofs.Names.{name_past, name_fallen, name_cut, name_whole}
-use borrow.Author.Rules.{rules}
 use Rattle.names.proofs.name_at.Goals as goal
 
 pub returns-then-n-begin : goal.returns-then-n-begin

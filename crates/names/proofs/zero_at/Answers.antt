@@ -1,12 +1,7 @@
 -- `names::zero_at` meets its contract.
-use mathlib.Core.Path.{◌≡◌, refl, sym, ◌∙◌}
-use mathlib.Core.List.{◌++◌}
-use Prim.Native.Nat.{◌-◌, ◌≤◌}
+use mathlib.Core.Path.{refl, sym, ◌∙◌}
 use native.Mathlib.Omega.{arith}
-use lib.ListN.{length, take, drop}
-use Rattle.names.specs.Names.{before_zero}
 use Rattle.names.proofs.Names.{search_on, search_found, search_end}
-use borrow.Author.Rules.{rules}
 use Rattle.names.proofs.zero_at.Goals as goal
 
 pub loop-i-init : goal.loop-i-init

@@ -1,15 +1,11 @@
 -- `names::zero_at` meets its contract.
-use mathlib.Core.Path.{◌≡◌, refl, sym, ◌∙◌}
+use mathlib.Core.Path.{◌≡◌}
 use mathlib.Core.List.{◌++◌}
 use Prim.Native.Nat.{◌-◌, ◌≤◌}
-use native.Mathlib.Omega.{arith}
 use lib.ListN.{length, take, drop}
 use Rattle.names.specs.Names.{before_zero}
-use Rattle.names.proofs.Names.{search_on, search_found, search_end}
-use borrow.Author.Rules.{rules}
 use Rattle.names.proofs.zero_at.Given as goal
 
--- `names::zero_at` meets its contract.
 abbrev pub invariant-loop-i : goal.invariant-loop-i
 invariant-loop-i l = (before_zero l.text ≡ take l.i l.text ++ before_zero (drop l.i l.text)) × (l.i ≤ length l.text)
 

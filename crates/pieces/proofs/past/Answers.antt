@@ -2,7 +2,6 @@
 use mathlib.Core.Path.{sym}
 use native.Mathlib.Omega.{arith}
 use Rattle.pieces.proofs.Put.{after_over, after_under}
-use borrow.Author.Rules.{rules}
 use Rattle.pieces.proofs.past.Goals as goal
 
 pub returns-then-at-n : goal.returns-then-at-n

@@ -3,7 +3,6 @@ use mathlib.Core.Path.{refl, sym}
 use native.Mathlib.Omega.{arith}
 use lib.Seq.{set_out}
 use Rattle.pieces.proofs.Put.{after_under}
-use borrow.Author.Rules.{rules}
 use Rattle.pieces.proofs.put_byte.Goals as goal
 
 pub returns-then-buf-at : goal.returns-then-buf-at

@@ -6,7 +6,6 @@ use lib.ListN.{length, take, replicate}
 use Rattle.decimal.specs.Decimal.{decimal}
 use Rattle.decimal.proofs.Decimal.{twenty}
 use Rattle.pieces.proofs.Digits.{place_after_text, text_first, length_text}
-use borrow.Author.Rules.{rules}
 use Rattle.pieces.proofs.put_number.Goals as goal
 
 pub slice_bounds-digits-end : goal.slice_bounds-digits-end

@@ -7,7 +7,6 @@ use lib.Seq.{length-take-le}
 use borrow.Author.Tests.{le-ltb}
 use Rattle.stores.specs.Stores.{filled}
 use Rattle.pieces.proofs.Put.{after_under, sets_past, sets_cut}
-use borrow.Author.Rules.{rules}
 use Rattle.pieces.proofs.put_part.Goals as goal
 
 pub returns-then-buf-at : goal.returns-then-buf-at

@@ -1,7 +1,6 @@
 -- `positions::from_bits` meets its contract.
 use Rattle.words.proofs.Sign.{back}
 use Rattle.positions.specs.Positions.{pos_of}
-use Rattle.std.proofs.Common.{rules}
 use Rattle.positions.proofs.from_bits.Goals as goal
 
 pub returns : goal.returns

@@ -1,7 +1,6 @@
 -- `positions::to_bcf` meets its contract. Through the bits: law `steps`.
 use Rattle.positions.proofs.Convert.{steps}
 use Rattle.positions.specs.Positions.{zero_based}
-use Rattle.std.proofs.Common.{rules}
 use Rattle.positions.proofs.to_bcf.Goals as goal
 
 pub returns : goal.returns

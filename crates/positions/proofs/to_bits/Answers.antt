@@ -1,5 +1,5 @@
 -- `positions::to_bits` meets its contract.
-use Rattle.std.proofs.Common.{◌∙◌, rules}
+use Rattle.std.proofs.Common.{◌∙◌}
 use Rattle.words.proofs.Sign.{bits_back}
 use Rattle.positions.specs.Positions.{pos_bits}
 use Rattle.positions.proofs.to_bits.Goals as goal

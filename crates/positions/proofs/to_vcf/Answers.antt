@@ -1,7 +1,6 @@
 -- `positions::to_vcf` meets its contract. Through the bits: law `steps`.
 use Rattle.positions.proofs.Convert.{steps}
 use Rattle.positions.specs.Positions.{one_based}
-use Rattle.std.proofs.Common.{rules}
 use Rattle.positions.proofs.to_vcf.Goals as goal
 
 pub returns : goal.returns

@@ -1,6 +1,5 @@
 -- `pump::make_room` meets its contract.
 use mathlib.Core.Path.{refl}
-use borrow.Author.Rules.{rules}
 use Rattle.pump.proofs.make_room.Goals as goal
 
 pub returns-then-has_room : goal.returns-then-has_room

@@ -1,7 +1,6 @@
 -- `pump::write_waiting` meets its contract.
 use mathlib.Core.Path.{sym, refl}
 use lib.Seq.{length-take-le}
-use borrow.Author.Rules.{rules}
 use borrow.Author.Tests.{lt-ltb, le-ltb}
 use Rattle.pump.proofs.write_waiting.Goals as goal
 

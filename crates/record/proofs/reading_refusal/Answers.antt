@@ -1,5 +1,4 @@
 -- `record::reading_refusal` meets its contract.
-use borrow.Author.Rules.{rules}
 use Rattle.record.proofs.reading_refusal.Goals as goal
 
 pub returns-in-Accepted : goal.returns-in-Accepted

@@ -7,7 +7,7 @@ use Rattle.types.specs.Rows.{width_of}
 use Rattle.repeats.specs.Repeats.{shown_elements, first_repeat}
 use Rattle.repeats.proofs.Elements.{length_elements, elements_front, front_room, front_less}
 use Rattle.repeats.proofs.Lists.{repeat_early}
-use Prim.Native.Nat.{ℕ, ◌*◌, ◌/◌, ◌<◌, ◌≤◌}
+use Prim.Native.Nat.{◌*◌, ◌/◌, ◌<◌, ◌≤◌}
 use Rattle.repeats.proofs.+first_repeat.Goals as goal
 
 pub slice_bounds-first_repeat-end : goal.slice_bounds-first_repeat-end

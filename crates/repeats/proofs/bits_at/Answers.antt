@@ -3,7 +3,6 @@ use mathlib.Core.Path.{◌∙◌, sym}
 use lib.IntN.{pos}
 use lib.ListN.{get_or}
 use Rattle.words.proofs.Sign.{bits_back, bits_at}
-use borrow.Author.Rules.{rules}
 use Rattle.repeats.proofs.bits_at.Goals as goal
 
 pub returns : goal.returns

@@ -6,7 +6,6 @@ use lib.ListN.{length}
 use Rattle.words.proofs.Words.{number_at}
 use Rattle.types.specs.Elements.{shown}
 use Rattle.repeats.proofs.Elements.{element_room, get_or_elements}
-use borrow.Author.Rules.{rules}
 use Rattle.repeats.proofs.element_at.Goals as goal
 
 pub overflow_mul-at : goal.overflow_mul-at

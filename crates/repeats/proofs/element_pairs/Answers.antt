@@ -2,7 +2,6 @@
 use mathlib.Core.Path.{◌≡◌, ◌∙◌, sym, ap}
 use mathlib.Core.Bool.{false}
 use mathlib.Core.Logic.{inl, inr}
-use Prim.Native.Nat.{ℕ, ◌-◌, ◌<◌, ◌≤◌}
 use native.Mathlib.Omega.{arith}
 use lib.ListN.{length}
 use Rattle.words.specs.Lists.{among}
@@ -10,7 +9,6 @@ use Rattle.repeats.specs.Repeats.{shown_elements}
 use Rattle.repeats.specs.Engine.{earlier, stood}
 use Rattle.repeats.proofs.Elements.{length_elements}
 use Rattle.repeats.proofs.Lists.{found, onward}
-use borrow.Author.Rules.{rules}
 use Rattle.repeats.proofs.element_pairs.Goals as goal
 
 pub loop-i-init : goal.loop-i-init

@@ -1,13 +1,11 @@
 -- `repeats::element_stood` meets its contract. The loop's invariant: the number is among all as it is among those that are left.
 use mathlib.Core.Path.{◌≡◌, ◌∙◌, sym}
-use Prim.Native.Nat.{◌-◌, ◌≤◌}
 use native.Mathlib.Omega.{arith}
 use borrow.Author.Tests.{eq-eqb, ne_eqb}
 use Rattle.words.specs.Lists.{among}
 use Rattle.repeats.specs.Repeats.{shown_elements}
 use Rattle.repeats.specs.Engine.{earlier}
 use Rattle.repeats.proofs.Lists.{among_turn}
-use borrow.Author.Rules.{rules}
 use Rattle.repeats.proofs.element_stood.Goals as goal
 
 pub element_at-requires : goal.element_at-requires

@@ -2,15 +2,13 @@
 use mathlib.Core.Path.{◌≡◌, refl}
 use mathlib.Core.Bool.{true, false}
 use mathlib.Core.Logic.{inl, inr}
-use Prim.Native.Nat.{◌-◌, ◌≤◌}
 use native.Mathlib.Omega.{arith}
 use native.Mathlib.Nat.{lt_of_lt_of_le}
-use lib.ListN.{length, get_or}
+use lib.ListN.{get_or}
 use Rattle.repeats.specs.Repeats.{shown_elements}
-use Rattle.repeats.specs.Engine.{earlier, Fresh, noted}
+use Rattle.repeats.specs.Engine.{earlier, noted}
 use Rattle.repeats.proofs.Lists.{fewer, one_more}
-use Rattle.repeats.proofs.Notes.{Notes, notes_none, sweep_stop, sweep_notes, sweep_fresh}
-use borrow.Author.Rules.{rules}
+use Rattle.repeats.proofs.Notes.{notes_none, sweep_stop, sweep_notes, sweep_fresh}
 use Rattle.repeats.proofs.element_window.Goals as goal
 
 pub loop-i-init : goal.loop-i-init

@@ -1,16 +1,9 @@
 -- `repeats::element_windows` meets its contract. The loop's invariant: the bound is the first repeat among the windows before.
-use mathlib.Core.Path.{◌≡◌, ◌∙◌, sym}
 use Prim.Native.Nat.{◌+◌, ◌-◌, ◌/◌, ◌≤◌}
-use native.Mathlib.Omega.{arith}
-use lib.ListN.{length}
 use Rattle.repeats.specs.Repeats.{shown_elements}
 use Rattle.repeats.specs.Engine.{Below}
-use Rattle.repeats.proofs.Elements.{length_elements}
-use Rattle.repeats.proofs.Lists.{bound_start, bound_turn, bound_end}
-use borrow.Author.Rules.{rules}
 use Rattle.repeats.proofs.element_windows.Given as goal
 
--- `repeats::element_windows` meets its contract. The loop's invariant: the bound is the first repeat among the windows before.
 abbrev pub invariant-loop-window : goal.invariant-loop-window
 invariant-loop-window l =
     Below l.window l.bound (shown_elements l.code l.part) × (l.window ≤ l.most / 4194304 + 1)

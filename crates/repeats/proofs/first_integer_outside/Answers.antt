@@ -1,15 +1,12 @@
 -- `repeats::first_integer_outside` meets its contract. The loop's invariant: the first of all is the first of those that are left.
 use mathlib.Core.Path.{◌≡◌, ◌∙◌, sym, ap}
 use mathlib.Core.List.{map}
-use Prim.Native.Nat.{◌+◌, ◌-◌, ◌≤◌}
 use native.Mathlib.Omega.{arith}
-use lib.ListN.{length, drop, length-map, get_or}
+use lib.ListN.{length-map, get_or}
 use mir.Syntax.{w32}
 use mir.Val.{of_z}
 use Rattle.words.specs.Words.{outside}
-use Rattle.repeats.specs.Repeats.{first_outside}
 use Rattle.repeats.proofs.Lists.{outside_turn, outside_end}
-use borrow.Author.Rules.{rules}
 use Rattle.repeats.proofs.first_integer_outside.Goals as goal
 
 pub returns-then-is_outside : goal.returns-then-is_outside

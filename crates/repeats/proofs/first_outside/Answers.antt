@@ -1,14 +1,12 @@
 -- `repeats::first_outside` meets its contract. The loop's invariant: the first of all is the first of those that are left.
 use mathlib.Core.Path.{◌≡◌, ◌∙◌, sym, ap}
-use Prim.Native.Nat.{◌+◌, ◌-◌, ◌≤◌}
 use native.Mathlib.Omega.{arith}
 use native.Mathlib.Nat.{zero-add}
-use lib.ListN.{length, drop, get_or}
+use lib.ListN.{length, get_or}
 use Rattle.words.specs.Words.{outside}
-use Rattle.repeats.specs.Repeats.{shown_elements, first_outside}
+use Rattle.repeats.specs.Repeats.{shown_elements}
 use Rattle.repeats.proofs.Elements.{length_elements}
 use Rattle.repeats.proofs.Lists.{outside_turn, outside_end}
-use borrow.Author.Rules.{rules}
 use Rattle.repeats.proofs.first_outside.Goals as goal
 
 pub loop-i-init : goal.loop-i-init

@@ -3,7 +3,6 @@ use mathlib.Core.Path.{◌≡◌, ◌∙◌, sym, ap}
 use mathlib.Core.List.{map}
 use mathlib.Core.Bool.{false}
 use mathlib.Core.Logic.{inl, inr}
-use Prim.Native.Nat.{ℕ, ◌-◌, ◌<◌, ◌≤◌}
 use native.Mathlib.Omega.{arith}
 use lib.ListN.{length, length-map}
 use mir.Syntax.{w32}
@@ -11,7 +10,6 @@ use mir.Val.{of_z}
 use Rattle.words.specs.Lists.{among}
 use Rattle.repeats.specs.Engine.{earlier, stood}
 use Rattle.repeats.proofs.Lists.{found, onward}
-use borrow.Author.Rules.{rules}
 use Rattle.repeats.proofs.integer_pairs.Goals as goal
 
 pub loop-i-init : goal.loop-i-init

@@ -1,20 +1,14 @@
 -- `repeats::integer_pairs` meets its contract. The loop's invariant: none of those before stood earlier.
-use mathlib.Core.Path.{◌≡◌, ◌∙◌, sym, ap}
+use mathlib.Core.Path.{◌≡◌}
 use mathlib.Core.List.{map}
 use mathlib.Core.Bool.{false}
-use mathlib.Core.Logic.{inl, inr}
 use Prim.Native.Nat.{ℕ, ◌-◌, ◌<◌, ◌≤◌}
-use native.Mathlib.Omega.{arith}
-use lib.ListN.{length, length-map}
+use lib.ListN.{length}
 use mir.Syntax.{w32}
 use mir.Val.{of_z}
-use Rattle.words.specs.Lists.{among}
-use Rattle.repeats.specs.Engine.{earlier, stood}
-use Rattle.repeats.proofs.Lists.{found, onward}
-use borrow.Author.Rules.{rules}
+use Rattle.repeats.specs.Engine.{stood}
 use Rattle.repeats.proofs.integer_pairs.Given as goal
 
--- `repeats::integer_pairs` meets its contract. The loop's invariant: none of those before stood earlier.
 abbrev pub invariant-loop-i : goal.invariant-loop-i
 invariant-loop-i l =
     ((j : ℕ) → j < l.i → stood (map (of_z w32) l.values) j ≡ false) × (l.i ≤ length l.values)

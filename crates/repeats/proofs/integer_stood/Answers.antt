@@ -1,7 +1,6 @@
 -- `repeats::integer_stood` meets its contract. The loop's invariant: the number is among all as it is among those that are left.
 use mathlib.Core.Path.{◌≡◌, ◌∙◌, sym}
 use mathlib.Core.List.{map}
-use Prim.Native.Nat.{◌-◌, ◌≤◌}
 use native.Mathlib.Omega.{arith}
 use mir.Syntax.{w32}
 use mir.Val.{of_z}
@@ -9,7 +8,6 @@ use borrow.Author.Tests.{eq-eqb, ne_eqb}
 use Rattle.words.specs.Lists.{among}
 use Rattle.repeats.specs.Engine.{earlier}
 use Rattle.repeats.proofs.Lists.{among_turn}
-use borrow.Author.Rules.{rules}
 use Rattle.repeats.proofs.integer_stood.Goals as goal
 
 pub returns-then-bits_at-x : goal.returns-then-bits_at-x

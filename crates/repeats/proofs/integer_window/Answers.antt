@@ -3,15 +3,13 @@ use mathlib.Core.Path.{◌≡◌, refl}
 use mathlib.Core.List.{map}
 use mathlib.Core.Bool.{true, false}
 use mathlib.Core.Logic.{inl, inr}
-use Prim.Native.Nat.{◌-◌, ◌≤◌}
 use native.Mathlib.Omega.{arith}
-use lib.ListN.{length, get_or}
+use lib.ListN.{get_or}
 use mir.Syntax.{w32}
 use mir.Val.{of_z}
-use Rattle.repeats.specs.Engine.{earlier, Fresh, noted}
-use Rattle.repeats.proofs.Notes.{Notes, notes_none, sweep_stop, sweep_notes, sweep_fresh}
+use Rattle.repeats.specs.Engine.{earlier, noted}
+use Rattle.repeats.proofs.Notes.{notes_none, sweep_stop, sweep_notes, sweep_fresh}
 use Rattle.repeats.proofs.Lists.{fewer, one_more}
-use borrow.Author.Rules.{rules}
 use Rattle.repeats.proofs.integer_window.Goals as goal
 
 pub loop-i-init : goal.loop-i-init

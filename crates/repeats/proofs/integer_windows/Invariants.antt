@@ -1,17 +1,11 @@
 -- `repeats::integer_windows` meets its contract. The loop's invariant: the bound is the first repeat among the windows before.
-use mathlib.Core.Path.{sym}
 use mathlib.Core.List.{map}
 use Prim.Native.Nat.{◌+◌, ◌-◌, ◌/◌, ◌≤◌}
-use native.Mathlib.Omega.{arith}
-use lib.ListN.{length-map}
 use mir.Syntax.{w32}
 use mir.Val.{of_z}
 use Rattle.repeats.specs.Engine.{Below}
-use Rattle.repeats.proofs.Lists.{bound_start, bound_turn, bound_end}
-use borrow.Author.Rules.{rules}
 use Rattle.repeats.proofs.integer_windows.Given as goal
 
--- `repeats::integer_windows` meets its contract. The loop's invariant: the bound is the first repeat among the windows before.
 abbrev pub invariant-loop-window : goal.invariant-loop-window
 invariant-loop-window l =
     Below l.window l.bound (map (of_z w32) l.values) × (l.window ≤ l.most / 4194304 + 1)

@@ -3,7 +3,6 @@ use native.Mathlib.Omega.{arith}
 use borrow.Author.Tests.{le-leb, lt-leb}
 use Rattle.values.proofs.Room.{prod}
 use Rattle.repeats.specs.Engine.{few}
-use borrow.Author.Rules.{rules}
 use Rattle.repeats.proofs.is_few.Goals as goal
 
 pub returns-then-count-ge65536 : goal.returns-then-count-ge65536

@@ -1,12 +1,11 @@
 -- `repeats::most_element` meets its contract. The loop's invariant: none of those before is larger.
 use mathlib.Core.Path.{◌≡◌, ◌∙◌}
-use Prim.Native.Nat.{ℕ, ◌-◌, ◌/◌, ◌<◌, ◌≤◌}
+use Prim.Native.Nat.{◌/◌, ◌≤◌}
 use native.Mathlib.Omega.{arith}
 use lib.ListN.{length, get_or}
 use Rattle.repeats.specs.Repeats.{shown_elements}
 use Rattle.repeats.proofs.Elements.{length_elements}
 use Rattle.repeats.proofs.Lists.{onward}
-use borrow.Author.Rules.{rules}
 use Rattle.repeats.proofs.most_element.Goals as goal
 
 pub loop-i-init : goal.loop-i-init

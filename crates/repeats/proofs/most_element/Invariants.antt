@@ -1,15 +1,9 @@
 -- `repeats::most_element` meets its contract. The loop's invariant: none of those before is larger.
-use mathlib.Core.Path.{◌≡◌, ◌∙◌}
-use Prim.Native.Nat.{ℕ, ◌-◌, ◌/◌, ◌<◌, ◌≤◌}
-use native.Mathlib.Omega.{arith}
-use lib.ListN.{length, get_or}
+use Prim.Native.Nat.{ℕ, ◌-◌, ◌<◌, ◌≤◌}
+use lib.ListN.{get_or}
 use Rattle.repeats.specs.Repeats.{shown_elements}
-use Rattle.repeats.proofs.Elements.{length_elements}
-use Rattle.repeats.proofs.Lists.{onward}
-use borrow.Author.Rules.{rules}
 use Rattle.repeats.proofs.most_element.Given as goal
 
--- `repeats::most_element` meets its contract. The loop's invariant: none of those before is larger.
 abbrev pub invariant-loop-i : goal.invariant-loop-i
 invariant-loop-i l =
     ((j : ℕ) → j < l.i → get_or (shown_elements l.code l.part) j 0 ≤ l.most) × (l.i ≤ l.count)

@@ -1,12 +1,11 @@
 -- `repeats::most_integer` meets its contract. The loop's invariant: none of those before is larger.
 use mathlib.Core.List.{map}
-use Prim.Native.Nat.{ℕ, ◌-◌, ◌<◌, ◌≤◌}
+use Prim.Native.Nat.{◌≤◌}
 use native.Mathlib.Omega.{arith}
-use lib.ListN.{length, get_or, length-map}
+use lib.ListN.{get_or, length-map}
 use mir.Syntax.{w32}
 use mir.Val.{of_z}
 use Rattle.repeats.proofs.Lists.{onward}
-use borrow.Author.Rules.{rules}
 use Rattle.repeats.proofs.most_integer.Goals as goal
 
 pub loop-i-init : goal.loop-i-init

@@ -1,15 +1,11 @@
 -- `repeats::most_integer` meets its contract. The loop's invariant: none of those before is larger.
 use mathlib.Core.List.{map}
 use Prim.Native.Nat.{ℕ, ◌-◌, ◌<◌, ◌≤◌}
-use native.Mathlib.Omega.{arith}
-use lib.ListN.{length, get_or, length-map}
+use lib.ListN.{length, get_or}
 use mir.Syntax.{w32}
 use mir.Val.{of_z}
-use Rattle.repeats.proofs.Lists.{onward}
-use borrow.Author.Rules.{rules}
 use Rattle.repeats.proofs.most_integer.Given as goal
 
--- `repeats::most_integer` meets its contract. The loop's invariant: none of those before is larger.
 abbrev pub invariant-loop-i : goal.invariant-loop-i
 invariant-loop-i l =
     ((j : ℕ) → j < l.i → get_or (map (of_z w32) l.values) j 0 ≤ l.most) × (l.i ≤ length l.values)

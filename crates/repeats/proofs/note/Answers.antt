@@ -6,7 +6,6 @@ use lib.ListN.{get_or, length-set}
 use borrow.Author.Tests.{eq-eqb, ne_eqb}
 use Rattle.repeats.specs.Engine.{noted, noting, held, with_bit}
 use Rattle.repeats.proofs.Bits.{one_bit, set_below}
-use borrow.Author.Rules.{rules}
 use Rattle.repeats.proofs.note.Goals as goal
 
 pub returns-then-x-window : goal.returns-then-x-window

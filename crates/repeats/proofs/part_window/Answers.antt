@@ -2,7 +2,6 @@
 use mathlib.Core.Path.{◌≡◌, ◌∙◌, ap}
 use Rattle.types.specs.Rows.{width_of}
 use Rattle.vectors.proofs.Plain.{width_3}
-use borrow.Author.Rules.{rules}
 use Rattle.repeats.proofs.part_window.Goals as goal
 
 pub long_window-requires : goal.long_window-requires

@@ -5,7 +5,6 @@ use borrow.Author.Tests.{eq-eqb, ne_eqb}
 use Rattle.words.proofs.Places.{drop_on, length_part}
 use Rattle.site.specs.Alleles.{allele}
 use Rattle.site.proofs.Inside.{judged_inside}
-use borrow.Author.Rules.{rules}
 use Rattle.site.proofs.allele_at.Goals as goal
 
 pub returns-in_default : goal.returns-in_default

@@ -1,16 +1,11 @@
 -- `site::alleles_at` meets its contract. The loop's invariant: the alleles from the start on are those that are left, from a place in the block.
-use mathlib.Core.Path.{◌≡◌, ◌∙◌}
+use mathlib.Core.Path.{◌≡◌}
 use Prim.Native.Nat.{◌≤◌, max}
-use native.Mathlib.Omega.{arith}
 use lib.ListN.{drop, length}
-use Rattle.words.proofs.Places.{drop_on}
 use Rattle.site.specs.Steps.{times}
-use Rattle.site.proofs.Turns.{times_turn}
 use Rattle.site.specs.Alleles.{allele}
-use borrow.Author.Rules.{rules}
 use Rattle.site.proofs.alleles_at.Given as goal
 
--- `site::alleles_at` meets its contract. The loop's invariant: the alleles from the start on are those that are left, from a place in the block.
 abbrev pub invariant-loop-left : goal.invariant-loop-left
 invariant-loop-left l =
     (times allele l.count l.from (drop l.from l.block) ≡ times allele l.left l.at (drop l.at l.block)) × (l.from ≤ l.at) × (l.at ≤ max l.from (length l.block))

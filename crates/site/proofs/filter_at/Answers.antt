@@ -4,7 +4,6 @@ use lib.ListN.{length}
 use Rattle.words.proofs.Places.{drop_on, length_part}
 use Rattle.site.specs.Filters.{filter}
 use Rattle.site.proofs.Inside.{judged_inside}
-use borrow.Author.Rules.{rules}
 use Rattle.site.proofs.filter_at.Goals as goal
 
 pub returns-in_default : goal.returns-in_default

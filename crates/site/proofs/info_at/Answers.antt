@@ -4,7 +4,6 @@ use lib.ListN.{length}
 use native.Mathlib.Omega.{arith}
 use Rattle.words.proofs.Places.{drop_on}
 use Rattle.site.proofs.Inside.{value_inside}
-use borrow.Author.Rules.{rules}
 use Rattle.site.proofs.info_at.Goals as goal
 
 pub returns-in_default : goal.returns-in_default

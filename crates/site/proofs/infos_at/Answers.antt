@@ -1,13 +1,10 @@
 -- `site::infos_at` meets its contract. The loop's invariant: the pairs from the start on are those that are left, from a place in the block.
 use mathlib.Core.Path.{◌≡◌, ◌∙◌}
-use Prim.Native.Nat.{◌≤◌, max}
 use native.Mathlib.Omega.{arith}
-use lib.ListN.{drop, length}
 use Rattle.words.proofs.Places.{drop_on}
 use Rattle.site.specs.Steps.{times}
 use Rattle.site.proofs.Turns.{times_turn}
 use Rattle.site.specs.Site.{info}
-use borrow.Author.Rules.{rules}
 use Rattle.site.proofs.infos_at.Goals as goal
 
 pub returns-in_default : goal.returns-in_default

@@ -1,16 +1,11 @@
 -- `site::infos_at` meets its contract. The loop's invariant: the pairs from the start on are those that are left, from a place in the block.
-use mathlib.Core.Path.{◌≡◌, ◌∙◌}
+use mathlib.Core.Path.{◌≡◌}
 use Prim.Native.Nat.{◌≤◌, max}
-use native.Mathlib.Omega.{arith}
 use lib.ListN.{drop, length}
-use Rattle.words.proofs.Places.{drop_on}
 use Rattle.site.specs.Steps.{times}
-use Rattle.site.proofs.Turns.{times_turn}
 use Rattle.site.specs.Site.{info}
-use borrow.Author.Rules.{rules}
 use Rattle.site.proofs.infos_at.Given as goal
 
--- `site::infos_at` meets its contract. The loop's invariant: the pairs from the start on are those that are left, from a place in the block.
 abbrev pub invariant-loop-left : goal.invariant-loop-left
 invariant-loop-left l =
     (times (info l.strings) l.count l.from (drop l.from l.block) ≡ times (info l.strings) l.left l.at (drop l.at l.block)) × (l.from ≤ l.at) × (l.at ≤ max l.from (length l.block))

@@ -1,12 +1,8 @@
 -- `site::judge_allele_bytes` meets its contract. The loop's invariant: the bytes are judged as those that are left.
-use mathlib.Core.Path.{◌≡◌, ◌∙◌}
-use Prim.Native.Nat.{◌-◌, ◌≤◌}
+use mathlib.Core.Path.{◌∙◌}
 use native.Mathlib.Omega.{arith}
-use lib.ListN.{drop, length}
 use borrow.Author.Tests.{lt-ltb, le-ltb}
-use Rattle.site.specs.Alleles.{allele_bytes}
 use Rattle.site.proofs.Turns.{allele_bytes_turn, allele_bytes_end}
-use borrow.Author.Rules.{rules}
 use Rattle.site.proofs.judge_allele_bytes.Goals as goal
 
 pub returns-then-b-lt33 : goal.returns-then-b-lt33

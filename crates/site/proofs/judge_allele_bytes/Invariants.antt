@@ -1,15 +1,10 @@
 -- `site::judge_allele_bytes` meets its contract. The loop's invariant: the bytes are judged as those that are left.
-use mathlib.Core.Path.{◌≡◌, ◌∙◌}
+use mathlib.Core.Path.{◌≡◌}
 use Prim.Native.Nat.{◌-◌, ◌≤◌}
-use native.Mathlib.Omega.{arith}
 use lib.ListN.{drop, length}
-use borrow.Author.Tests.{lt-ltb, le-ltb}
 use Rattle.site.specs.Alleles.{allele_bytes}
-use Rattle.site.proofs.Turns.{allele_bytes_turn, allele_bytes_end}
-use borrow.Author.Rules.{rules}
 use Rattle.site.proofs.judge_allele_bytes.Given as goal
 
--- `site::judge_allele_bytes` meets its contract. The loop's invariant: the bytes are judged as those that are left.
 abbrev pub invariant-loop-at : goal.invariant-loop-at
 invariant-loop-at l = (allele_bytes 0 l.part ≡ allele_bytes l.at (drop l.at l.part)) × (l.at ≤ length l.part)
 

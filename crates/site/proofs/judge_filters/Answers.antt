@@ -6,7 +6,6 @@ use lib.Seq.{length-take-le}
 use borrow.Author.Tests.{lt-ltb, le-ltb}
 use Rattle.repeats.proofs.Elements.{front_room}
 use Rattle.site.proofs.Filters.{filtered_verdict}
-use borrow.Author.Rules.{rules}
 use Rattle.site.proofs.judge_filters.Goals as goal
 
 pub overflow_mul-stop : goal.overflow_mul-stop

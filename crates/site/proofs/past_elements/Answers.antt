@@ -1,6 +1,5 @@
 -- `site::past_elements` meets its contract.
 use native.Mathlib.Omega.{arith}
-use borrow.Author.Rules.{rules}
 use Rattle.site.proofs.past_elements.Goals as goal
 
 pub overflow_add-result : goal.overflow_add-result

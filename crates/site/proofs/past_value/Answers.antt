@@ -1,5 +1,4 @@
 -- `site::past_value` meets its contract.
-use borrow.Author.Rules.{rules}
 use Rattle.site.proofs.past_value.Goals as goal
 
 pub returns-in-Present : goal.returns-in-Present

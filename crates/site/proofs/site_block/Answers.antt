@@ -6,7 +6,6 @@ use Rattle.words.proofs.Places.{drop_on}
 use Rattle.site.specs.Site.{site}
 use Rattle.site.proofs.Inside.{value_inside}
 use Rattle.site.proofs.Turns.{ended_at}
-use borrow.Author.Rules.{rules}
 use Rattle.site.proofs.site_block.Goals as goal
 
 pub returns-in_default : goal.returns-in_default

@@ -1,5 +1,4 @@
 -- `site::step_refusal` meets its contract.
-use borrow.Author.Rules.{rules}
 use Rattle.site.proofs.step_refusal.Goals as goal
 
 pub returns-in-At : goal.returns-in-At

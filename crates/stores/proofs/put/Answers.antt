@@ -1,13 +1,11 @@
 -- `stores::put` meets its contract. The loop's invariant: the whole part stored is what is left of it stored from here on.
-use mathlib.Core.Path.{◌≡◌, ◌∙◌, sym, refl}
-use Prim.Native.Nat.{◌+◌, ◌-◌, ◌<◌, ◌≤◌}
+use mathlib.Core.Path.{◌∙◌, sym, refl}
+use Prim.Native.Nat.{◌+◌, ◌<◌, ◌≤◌}
 use native.Mathlib.Omega.{arith}
 use native.Mathlib.Nat.{add-zero}
-use lib.ListN.{length, drop, length-set}
-use lib.Seq.{sets}
+use lib.ListN.{length, length-set}
 use Rattle.stores.proofs.Room.{fits_short, fits_room, filled_short, filled_room}
 use Rattle.stores.proofs.Turns.{sets_part, sets_end}
-use borrow.Author.Rules.{rules}
 use Rattle.stores.proofs.put.Goals as goal
 
 pub returns-then-buf-at : goal.returns-then-buf-at

@@ -1,6 +1,6 @@
 -- `stores::put_number` meets its contract. The loop's invariant: all bytes stored are the bytes that are left stored from here on.
 use mathlib.Core.Path.{◌≡◌, ◌∙◌, sym}
-use Prim.Native.Nat.{◌+◌, ◌-◌, ◌<◌, ◌≤◌}
+use Prim.Native.Nat.{◌+◌, ◌<◌, ◌≤◌}
 use native.Mathlib.Omega.{arith}
 use lib.ListN.{length, length-set}
 use lib.Seq.{sets}
@@ -8,7 +8,6 @@ use Rattle.words.specs.Words.{bytes}
 use Rattle.words.proofs.Words.{length_bytes}
 use Rattle.stores.proofs.Room.{fits_short, fits_room, filled_short, filled_room}
 use Rattle.stores.proofs.Turns.{sets_bytes}
-use borrow.Author.Rules.{rules}
 use Rattle.stores.proofs.put_number.Goals as goal
 
 pub returns-then-buf-at : goal.returns-then-buf-at

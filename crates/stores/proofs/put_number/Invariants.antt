@@ -1,17 +1,11 @@
 -- `stores::put_number` meets its contract. The loop's invariant: all bytes stored are the bytes that are left stored from here on.
-use mathlib.Core.Path.{◌≡◌, ◌∙◌, sym}
-use Prim.Native.Nat.{◌+◌, ◌-◌, ◌<◌, ◌≤◌}
-use native.Mathlib.Omega.{arith}
-use lib.ListN.{length, length-set}
+use mathlib.Core.Path.{◌≡◌}
+use Prim.Native.Nat.{◌+◌}
+use lib.ListN.{length}
 use lib.Seq.{sets}
 use Rattle.words.specs.Words.{bytes}
-use Rattle.words.proofs.Words.{length_bytes}
-use Rattle.stores.proofs.Room.{fits_short, fits_room, filled_short, filled_room}
-use Rattle.stores.proofs.Turns.{sets_bytes}
-use borrow.Author.Rules.{rules}
 use Rattle.stores.proofs.put_number.Given as goal
 
--- `stores::put_number` meets its contract. The loop's invariant: all bytes stored are the bytes that are left stored from here on.
 abbrev pub invariant-loop-left : goal.invariant-loop-left
 invariant-loop-left l =
     (sets l.initial.buf l.at (bytes l.width l.v) ≡ sets l.buf l.o (bytes l.left l.rest)) × (length l.buf ≡ length l.initial.buf) × (l.o + l.left ≡ l.at + l.width)

@@ -1,6 +1,5 @@
 -- `tally::calls_of` meets its contract.
 use Rattle.tally.proofs.Parts.{calls_of_none, calls_of_part}
-use borrow.Author.Rules.{rules}
 use Rattle.tally.proofs.calls_of.Goals as goal
 
 pub returns-then-len-eq0 : goal.returns-then-len-eq0

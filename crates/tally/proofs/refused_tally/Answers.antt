@@ -1,5 +1,4 @@
 -- `tally::refused_tally` meets its contract.
-use borrow.Author.Rules.{rules}
 use Rattle.tally.proofs.refused_tally.Goals as goal
 
 pub returns : goal.returns

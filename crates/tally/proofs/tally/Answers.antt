@@ -1,7 +1,6 @@
 -- `tally::tally` meets its contract.
 use borrow.Author.Tests.{le-ltb, lt-ltb}
 use Rattle.tally.specs.Tally.{tallied}
-use borrow.Author.Rules.{rules}
 use Rattle.tally.proofs.tally.Goals as goal
 
 pub returns-in_default : goal.returns-in_default

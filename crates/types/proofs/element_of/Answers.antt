@@ -1,7 +1,6 @@
 -- `types::element_of` meets its contract.
 use borrow.Author.Tests.{eq-eqb, ne_eqb}
 use Rattle.types.specs.Elements.{kind}
-use borrow.Author.Rules.{rules}
 use Rattle.types.proofs.element_of.Goals as goal
 
 pub returns-then-code-eq1 : goal.returns-then-code-eq1

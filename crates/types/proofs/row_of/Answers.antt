@@ -3,7 +3,6 @@ use mathlib.Core.Path.{refl, sym}
 use native.Mathlib.Omega.{arith}
 use Rattle.types.specs.Rows.{row_of, width_of}
 use Rattle.types.proofs.Table.{rows_past, widths}
-use borrow.Author.Rules.{rules}
 use Rattle.types.proofs.row_of.Goals as goal
 
 pub returns-then-code-lt16 : goal.returns-then-code-lt16

@@ -1,7 +1,6 @@
 -- `types::shown_bits` meets its contract.
 use borrow.Author.Tests.{eq-eqb, ne_eqb}
 use Rattle.types.specs.Elements.{shown}
-use borrow.Author.Rules.{rules}
 use Rattle.types.proofs.shown_bits.Goals as goal
 
 pub returns-then-code-eq1 : goal.returns-then-code-eq1

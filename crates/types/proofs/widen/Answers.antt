@@ -2,7 +2,6 @@
 use native.Mathlib.Omega.{arith}
 use borrow.Author.Tests.{eq-eqb, le-ltb, lt-ltb, ne_eqb}
 use Rattle.types.specs.Elements.{widened}
-use borrow.Author.Rules.{rules}
 use Rattle.types.proofs.widen.Goals as goal
 
 pub returns-then-raw-missing : goal.returns-then-raw-missing

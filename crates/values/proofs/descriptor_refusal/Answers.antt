@@ -1,5 +1,4 @@
 -- `values::descriptor_refusal` meets its contract.
-use borrow.Author.Rules.{rules}
 use Rattle.values.proofs.descriptor_refusal.Goals as goal
 
 pub returns-in-Typed : goal.returns-in-Typed

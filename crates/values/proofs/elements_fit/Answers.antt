@@ -1,7 +1,6 @@
 -- `values::elements_fit` meets its contract. The division stands for the product: law `fits_over`.
 use native.Mathlib.Omega.{arith}
 use Rattle.values.proofs.Room.{fits_before, fits_none, fits_over}
-use borrow.Author.Rules.{rules}
 use Rattle.values.proofs.elements_fit.Goals as goal
 
 pub returns-then-end-first : goal.returns-then-end-first

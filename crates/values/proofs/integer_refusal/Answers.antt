@@ -1,5 +1,4 @@
 -- `values::integer_refusal` meets its contract.
-use borrow.Author.Rules.{rules}
 use Rattle.values.proofs.integer_refusal.Goals as goal
 
 pub returns-in-One : goal.returns-in-One

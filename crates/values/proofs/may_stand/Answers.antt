@@ -1,7 +1,6 @@
 -- `values::may_stand` meets its contract.
 use borrow.Author.Tests.{eq-eqb, ne_eqb}
 use Rattle.values.specs.Values.{may_stand}
-use borrow.Author.Rules.{rules}
 use Rattle.values.proofs.may_stand.Goals as goal
 
 pub returns-then-code-eq0 : goal.returns-then-code-eq0

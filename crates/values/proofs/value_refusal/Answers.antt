@@ -1,5 +1,4 @@
 -- `values::value_refusal` meets its contract.
-use borrow.Author.Rules.{rules}
 use Rattle.values.proofs.value_refusal.Goals as goal
 
 pub returns-in-Present : goal.returns-in-Present

@@ -1,7 +1,6 @@
 -- `vcf_calls::figure` meets its contract.
 use Rattle.vcf_calls.proofs.Words.{missing_word}
 use Rattle.vcf_calls.proofs.Pairs.{one_digit}
-use borrow.Author.Rules.{rules}
 use Rattle.vcf_calls.proofs.figure.Goals as goal
 
 pub returns-then-code-lt2 : goal.returns-then-code-lt2

@@ -6,7 +6,6 @@ use lib.ListN.{length}
 use Rattle.types.specs.Rows.{row_of, width_of}
 use Rattle.vcf_calls.specs.Engine.{columns_of}
 use Rattle.vcf_calls.proofs.People.{people_inside, counted_columns}
-use borrow.Author.Rules.{rules}
 use Rattle.vcf_calls.proofs.put_calls.Goals as goal
 
 pub put_couples-requires : goal.put_couples-requires

@@ -1,12 +1,11 @@
 -- `vcf_calls::put_column` meets its contract.
 use native.Mathlib.Omega.{arith}
-use mathlib.Core.List.{[], ◌∷◌}
+use mathlib.Core.List.{◌∷◌}
 use lib.ListN.{drop}
 use Rattle.vectors.specs.Vectors.{shown_numbers}
 use Rattle.pieces.proofs.Put.{then_put}
 use Rattle.vcf_calls.specs.Words.{genotype_word}
 use Rattle.vcf_calls.specs.Engine.{column_of}
-use borrow.Author.Rules.{rules}
 use Rattle.vcf_calls.proofs.put_column.Goals as goal
 
 pub returns : goal.returns

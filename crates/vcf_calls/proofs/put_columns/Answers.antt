@@ -1,15 +1,14 @@
 -- `vcf_calls::put_columns` meets its contract.
 use native.Mathlib.Omega.{arith}
 use mathlib.Core.Path.{◌≡◌}
-use Prim.Native.Nat.{◌+◌, ◌-◌, ◌*◌, ◌≤◌}
+use Prim.Native.Nat.{◌-◌, ◌*◌}
 use native.Mathlib.Nat.{zero-add}
 use lib.ListN.{length, drop}
 use lib.Seq.{drop-drop}
 use Rattle.values.proofs.Room.{room}
-use Rattle.pieces.proofs.Put.{ToPut, all_to_put, put_some, put_all}
+use Rattle.pieces.proofs.Put.{all_to_put, put_some, put_all}
 use Rattle.vcf_calls.specs.Engine.{column_of, columns_of}
 use Rattle.vcf_calls.proofs.People.{no_columns, columns_on}
-use borrow.Author.Rules.{rules}
 use Rattle.vcf_calls.proofs.put_columns.Goals as goal
 
 pub loop-left-init : goal.loop-left-init

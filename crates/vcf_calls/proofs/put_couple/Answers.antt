@@ -5,7 +5,6 @@ use native.Mathlib.Omega.{arith}
 use lib.ListN.{get_or}
 use Rattle.types.specs.Rows.{row_of, width_of}
 use Rattle.vcf_calls.proofs.Pairs.{single_column, pair_column}
-use borrow.Author.Rules.{rules}
 use Rattle.vcf_calls.proofs.put_couple.Goals as goal
 
 pub put_column-requires : goal.put_column-requires

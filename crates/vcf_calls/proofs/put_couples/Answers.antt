@@ -1,13 +1,12 @@
 -- `vcf_calls::put_couples` meets its contract.
 use native.Mathlib.Omega.{arith}
 use mathlib.Core.Path.{◌≡◌}
-use Prim.Native.Nat.{◌+◌, ◌-◌, ◌*◌, ◌≤◌}
-use lib.ListN.{length, drop}
+use Prim.Native.Nat.{◌-◌}
+use lib.ListN.{drop}
 use lib.Seq.{drop-drop}
-use Rattle.pieces.proofs.Put.{ToPut, all_to_put, put_some, put_all}
+use Rattle.pieces.proofs.Put.{all_to_put, put_some, put_all}
 use Rattle.vcf_calls.specs.Engine.{column_of, columns_of}
 use Rattle.vcf_calls.proofs.People.{no_columns, columns_on}
-use borrow.Author.Rules.{rules}
 use Rattle.vcf_calls.proofs.put_couples.Goals as goal
 
 pub loop-left-init : goal.loop-left-init

@@ -1,13 +1,12 @@
 -- `vcf_calls::put_dots` meets its contract.
 use native.Mathlib.Omega.{arith}
-use mathlib.Core.List.{[], ◌∷◌}
+use mathlib.Core.List.{◌∷◌}
 use Prim.Native.Nat.{◌-◌}
 use mathlib.Core.Path.{◌≡◌}
 use lib.ListN.{replicate}
 use Rattle.pieces.specs.Pieces.{followed, dot}
-use Rattle.pieces.proofs.Put.{ToPut, all_to_put, put_some, put_all}
+use Rattle.pieces.proofs.Put.{all_to_put, put_some, put_all}
 use Rattle.vcf_calls.proofs.Words.{dots_on, no_dots}
-use borrow.Author.Rules.{rules}
 use Rattle.vcf_calls.proofs.put_dots.Goals as goal
 
 pub loop-left-init : goal.loop-left-init

@@ -1,16 +1,9 @@
 -- `vcf_calls::put_dots` meets its contract.
-use native.Mathlib.Omega.{arith}
-use mathlib.Core.List.{[], ◌∷◌}
-use Prim.Native.Nat.{◌-◌}
-use mathlib.Core.Path.{◌≡◌}
 use lib.ListN.{replicate}
 use Rattle.pieces.specs.Pieces.{followed, dot}
-use Rattle.pieces.proofs.Put.{ToPut, all_to_put, put_some, put_all}
-use Rattle.vcf_calls.proofs.Words.{dots_on, no_dots}
-use borrow.Author.Rules.{rules}
+use Rattle.pieces.proofs.Put.{ToPut}
 use Rattle.vcf_calls.proofs.put_dots.Given as goal
 
--- `vcf_calls::put_dots` meets its contract.
 abbrev pub invariant-loop-left : goal.invariant-loop-left
 invariant-loop-left l = ToPut l.initial.buf l.at (followed 0x09 (replicate l.people dot)) l.buf l.next (followed 0x09 (replicate l.left dot))
 

@@ -1,15 +1,14 @@
 -- `vcf_calls::put_later` meets its contract.
 use native.Mathlib.Omega.{arith}
 use mathlib.Core.Path.{◌≡◌, sym, ◌∙◌}
-use mathlib.Core.List.{[], ◌∷◌, ◌++◌}
-use Prim.Native.Nat.{◌+◌, ◌-◌, ◌*◌, ◌≤◌}
+use mathlib.Core.List.{◌∷◌, ◌++◌}
+use Prim.Native.Nat.{◌-◌}
 use lib.ListN.{length, drop}
-use Rattle.pieces.proofs.Put.{ToPut, all_to_put, put_some, put_all}
+use Rattle.pieces.proofs.Put.{all_to_put, put_some, put_all}
 use Rattle.vcf_calls.specs.Words.{slot_word, separator, call_of_number}
 use Rattle.vcf_calls.proofs.Words.{later_of, later_none, later_end, later_on}
 use lib.Seq.{drop-drop}
 use Rattle.values.proofs.Room.{room}
-use borrow.Author.Rules.{rules}
 use Rattle.vcf_calls.proofs.put_later.Goals as goal
 
 pub loop-left-init : goal.loop-left-init

@@ -6,7 +6,6 @@ use lib.ListN.{length-set}
 use Rattle.pieces.proofs.Put.{after_under, sets_past}
 use Rattle.vcf_calls.specs.Engine.{pair_text}
 use Rattle.vcf_calls.proofs.Pairs.{pair_bytes_lem, pair_length}
-use borrow.Author.Rules.{rules}
 use Rattle.vcf_calls.proofs.put_pair.Goals as goal
 
 pub returns-then-buf-to : goal.returns-then-buf-to

@@ -8,7 +8,6 @@ use Rattle.values.proofs.Room.{room}
 use Rattle.pieces.proofs.Put.{then_put}
 use Rattle.vcf_calls.specs.Words.{slot_word, call_of_number}
 use Rattle.vcf_calls.proofs.Words.{later_of, person_none, person_end, person_on}
-use borrow.Author.Rules.{rules}
 use Rattle.vcf_calls.proofs.put_person.Goals as goal
 
 pub returns-then-len-eq0 : goal.returns-then-len-eq0

@@ -3,7 +3,6 @@ use native.Mathlib.Omega.{arith}
 use Prim.Native.Nat.{◌/◌, ◌-◌}
 use Rattle.decimal.proofs.Decimal.{below_ten}
 use Rattle.vcf_calls.proofs.Words.{high_word, missing_word, allele_word}
-use borrow.Author.Rules.{rules}
 use Rattle.vcf_calls.proofs.put_slot.Goals as goal
 
 pub returns-then-x-ge2147483648 : goal.returns-then-x-ge2147483648

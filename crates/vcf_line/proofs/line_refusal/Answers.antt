@@ -1,5 +1,4 @@
 -- `vcf_line::line_refusal` meets its contract.
-use borrow.Author.Rules.{rules}
 use Rattle.vcf_line.proofs.line_refusal.Goals as goal
 
 pub returns-in-Written : goal.returns-in-Written

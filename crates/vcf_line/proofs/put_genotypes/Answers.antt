@@ -1,5 +1,5 @@
 -- `vcf_line::put_genotypes` meets its contract.
-use mathlib.Core.List.{[], ◌∷◌}
+use mathlib.Core.List.{◌∷◌}
 use native.Mathlib.Omega.{arith}
 use lib.ListN.{replicate}
 use Rattle.genotypes.specs.Formats.{gt_part}
@@ -7,7 +7,6 @@ use Rattle.pieces.specs.Pieces.{followed, dot}
 use Rattle.pieces.proofs.Put.{all_to_put, put_some, put_last, none_put}
 use Rattle.vcf_calls.specs.Words.{part_words}
 use Rattle.vcf_line.proofs.Calls.{no_gt_lem, gt_dots, gt_calls}
-use borrow.Author.Rules.{rules}
 use Rattle.vcf_line.proofs.put_genotypes.Goals as goal
 
 pub returns-then-first-eq0 : goal.returns-then-first-eq0

@@ -8,7 +8,6 @@ use Rattle.names.specs.Names.{name_of}
 use Rattle.vcf_qual.specs.Qual.{qual_text}
 use Rattle.vcf_site.specs.Columns.{front_text, alleles_text, filters_text}
 use Rattle.vcf_line.specs.Engine.{end_text, line_text}
-use borrow.Author.Rules.{rules}
 use Rattle.vcf_line.proofs.put_line.Goals as goal
 
 pub returns : goal.returns

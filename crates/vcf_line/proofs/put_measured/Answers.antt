@@ -9,7 +9,6 @@ use Rattle.stores.specs.Stores.{filled}
 use Rattle.names.specs.Names.{name_of}
 use Rattle.vcf_line.specs.Engine.{line_text}
 use Rattle.vcf_line.proofs.Measured.{no_room, has_room}
-use borrow.Author.Rules.{rules}
 use Rattle.vcf_line.proofs.put_measured.Goals as goal
 
 pub returns-then-buf-size : goal.returns-then-buf-size

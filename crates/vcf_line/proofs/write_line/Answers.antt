@@ -4,7 +4,6 @@ use borrow.Author.Tests.{lt-ltb, le-ltb}
 use Rattle.names.specs.Names.{name_of}
 use Rattle.vcf_line.specs.Line.{printed, line_answer, after_line}
 use Rattle.vcf_line.proofs.Shown.{line_shown}
-use borrow.Author.Rules.{rules}
 use Rattle.vcf_line.proofs.write_line.Goals as goal
 
 pub returns-in_default : goal.returns-in_default

@@ -1,7 +1,6 @@
 -- `vcf_qual::is_printable` meets its contract.
 use borrow.Author.Tests.{eq-eqb, ne_eqb}
 use Rattle.vcf_qual.specs.Qual.{printable}
-use borrow.Author.Rules.{rules}
 use Rattle.vcf_qual.proofs.is_printable.Goals as goal
 
 pub returns-then-qual-eq-MISSING : goal.returns-then-qual-eq-MISSING

@@ -4,7 +4,6 @@ use Prim.Native.Nat.{◌*◌, ◌%◌, ◌^◌}
 use native.Mathlib.Nat.{one-mul, mod-eq_of_lt}
 use native.Mathlib.Omega.{arith}
 use lib.Pow.{pow-lt, pow_pos}
-use borrow.Author.Rules.{rules}
 use Rattle.vcf_qual.proofs.power.Goals as goal
 
 pub returns : goal.returns

@@ -3,7 +3,6 @@ use mathlib.Core.Path.{sym, ◌∙◌}
 use native.Mathlib.Omega.{arith}
 use Rattle.pieces.proofs.Put.{none_put}
 use Rattle.vcf_qual.proofs.Text.{text_missing, text_number, text_other}
-use borrow.Author.Rules.{rules}
 use Rattle.vcf_qual.proofs.put_qual.Goals as goal
 
 pub returns-then-qual-eq-MISSING : goal.returns-then-qual-eq-MISSING

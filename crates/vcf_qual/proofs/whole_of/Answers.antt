@@ -1,7 +1,6 @@
 -- `vcf_qual::whole_of` meets its contract.
 use borrow.Author.Tests.{eq-eqb, le-leb, le-ltb, lt-leb, lt-ltb, ne_eqb}
 use Rattle.vcf_qual.specs.Qual.{whole_of}
-use borrow.Author.Rules.{rules}
 use Rattle.vcf_qual.proofs.whole_of.Goals as goal
 
 pub returns-then-bits-eq0 : goal.returns-then-bits-eq0

@@ -1,12 +1,11 @@
 -- `vcf_site::put_alleles` meets its contract.
-use mathlib.Core.List.{[], ◌∷◌, ◌++◌}
+use mathlib.Core.List.{◌∷◌, ◌++◌}
 use Prim.Native.Nat.{◌-◌, ◌≤◌}
 use native.Mathlib.Omega.{arith}
 use lib.ListN.{length, take, drop}
 use Rattle.pieces.specs.Pieces.{listed}
 use Rattle.pieces.proofs.Put.{all_to_put, put_some, put_last, none_put}
 use Rattle.vcf_site.specs.Columns.{allele_parts, alleles_text}
-use borrow.Author.Rules.{rules}
 use Rattle.vcf_site.proofs.put_alleles.Goals as goal
 
 pub returns-in_default : goal.returns-in_default

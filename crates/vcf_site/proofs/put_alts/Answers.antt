@@ -7,7 +7,6 @@ use Rattle.pieces.specs.Pieces.{followed}
 use Rattle.pieces.proofs.Put.{then_put}
 use Rattle.vcf_site.specs.Columns.{allele_parts}
 use Rattle.vcf_site.proofs.Parts.{no_alleles, alleles_refused, alleles_on, none_listed, listed_on}
-use borrow.Author.Rules.{rules}
 use Rattle.vcf_site.proofs.put_alts.Goals as goal
 
 pub returns-then-count-eq0 : goal.returns-then-count-eq0

@@ -1,12 +1,11 @@
 -- `vcf_site::put_filters` meets its contract.
-use mathlib.Core.List.{[], ◌∷◌}
+use mathlib.Core.List.{◌∷◌}
 use Prim.Native.Nat.{◌-◌}
 use native.Mathlib.Omega.{arith}
 use lib.ListN.{take, drop}
 use Rattle.names.specs.Names.{name_of}
 use Rattle.pieces.proofs.Put.{then_put, none_put}
 use Rattle.vcf_site.specs.Columns.{names_text, filters_text}
-use borrow.Author.Rules.{rules}
 use Rattle.vcf_site.proofs.put_filters.Goals as goal
 
 pub returns-in_default : goal.returns-in_default

@@ -1,5 +1,5 @@
 -- `vcf_site::put_front` meets its contract.
-use mathlib.Core.List.{[], ◌∷◌, ◌++◌}
+use mathlib.Core.List.{◌∷◌, ◌++◌}
 use Prim.Native.Nat.{◌≤◌}
 use native.Mathlib.Omega.{arith}
 use lib.ListN.{length}
@@ -10,7 +10,6 @@ use Rattle.pieces.specs.Pieces.{or_dot}
 use Rattle.pieces.proofs.Put.{all_to_put, put_some, put_last}
 use Rattle.names.specs.Names.{before_zero, name_of}
 use Rattle.vcf_site.specs.Columns.{pos_text, front_text}
-use borrow.Author.Rules.{rules}
 use Rattle.vcf_site.proofs.put_front.Goals as goal
 
 pub returns : goal.returns

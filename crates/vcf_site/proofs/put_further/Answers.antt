@@ -1,14 +1,13 @@
 -- `vcf_site::put_further` meets its contract.
 use mathlib.Core.Path.{◌≡◌, ◌∙◌, sym}
-use mathlib.Core.List.{[], ◌∷◌, ◌++◌}
+use mathlib.Core.List.{◌∷◌, ◌++◌}
 use Prim.Native.Nat.{◌-◌, ◌≤◌}
 use native.Mathlib.Omega.{arith}
 use lib.ListN.{take, drop}
 use Rattle.pieces.specs.Pieces.{followed}
-use Rattle.pieces.proofs.Put.{ToPut, all_to_put, put_some, put_all}
+use Rattle.pieces.proofs.Put.{all_to_put, put_some, put_all}
 use Rattle.vcf_site.specs.Columns.{allele_parts}
 use Rattle.vcf_site.proofs.Parts.{no_alleles, alleles_refused, alleles_on, none_followed, followed_on}
-use borrow.Author.Rules.{rules}
 use Rattle.vcf_site.proofs.put_further.Goals as goal
 
 pub loop-left-init : goal.loop-left-init

@@ -13,7 +13,6 @@ use Rattle.pieces.proofs.Put.{then_put}
 use Rattle.names.specs.Names.{name_of}
 use Rattle.vcf_site.specs.Columns.{names_text}
 use Rattle.vcf_site.proofs.Parts.{no_names_lem, names_on, none_listed, listed_on}
-use borrow.Author.Rules.{rules}
 use Rattle.vcf_site.proofs.put_listed.Goals as goal
 
 pub returns-then-count-eq0 : goal.returns-then-count-eq0

@@ -1,20 +1,13 @@
 -- `vcf_site::put_names` meets its contract.
-use mathlib.Core.Path.{◌≡◌}
-use mathlib.Core.List.{[], ◌∷◌, ◌++◌, map}
-use Prim.Native.Nat.{◌+◌, ◌-◌, ◌*◌, ◌≤◌}
-use native.Mathlib.Omega.{arith}
+use mathlib.Core.List.{map}
+use Prim.Native.Nat.{◌+◌, ◌*◌, ◌≤◌}
 use lib.ListN.{length, drop}
-use lib.Seq.{drop-drop}
-use Rattle.values.proofs.Room.{room}
 use Rattle.vectors.specs.Vectors.{shown_numbers}
 use Rattle.pieces.specs.Pieces.{followed}
-use Rattle.pieces.proofs.Put.{ToPut, all_to_put, put_some, put_all}
+use Rattle.pieces.proofs.Put.{ToPut}
 use Rattle.names.specs.Names.{name_of}
-use Rattle.vcf_site.proofs.Parts.{no_names_lem, names_on, none_followed, followed_on}
-use borrow.Author.Rules.{rules}
 use Rattle.vcf_site.proofs.put_names.Given as goal
 
--- `vcf_site::put_names` meets its contract.
 abbrev pub invariant-loop-left : goal.invariant-loop-left
 invariant-loop-left l =
     ToPut l.initial.buf l.to (followed 0x3B (map (name_of l.text l.ends) (shown_numbers l.code l.width l.count (drop l.from l.part)))) l.buf l.next

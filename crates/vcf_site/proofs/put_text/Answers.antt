@@ -1,7 +1,6 @@
 -- `vcf_site::put_text` meets its contract.
 use Rattle.names.specs.Names.{before_zero}
 use Rattle.vcf_site.proofs.Parts.{dot_none, dot_some}
-use borrow.Author.Rules.{rules}
 use Rattle.vcf_site.proofs.put_text.Goals as goal
 
 pub returns-then-part-eq0 : goal.returns-then-part-eq0

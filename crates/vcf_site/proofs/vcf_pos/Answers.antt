@@ -2,7 +2,6 @@
 use mathlib.Core.Path.{◌∙◌}
 use Rattle.positions.proofs.Convert.{pos_of_pos_bits}
 use Rattle.words.proofs.Sign.{bits_back}
-use borrow.Author.Rules.{rules}
 use Rattle.vcf_site.proofs.vcf_pos.Goals as goal
 
 pub returns : goal.returns

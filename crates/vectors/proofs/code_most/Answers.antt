@@ -1,7 +1,6 @@
 -- `vectors::code_most` meets its contract.
 use borrow.Author.Tests.{le-ltb, lt-ltb}
 use Rattle.vectors.specs.Sound.{code_most}
-use borrow.Author.Rules.{rules}
 use Rattle.vectors.proofs.code_most.Goals as goal
 
 pub returns-then-alleles-top : goal.returns-then-alleles-top

@@ -5,7 +5,6 @@ use native.Mathlib.Omega.{arith}
 use native.Mathlib.Nat.{mul_assoc}
 use lib.ListN.{length}
 use Rattle.vectors.proofs.Plain.{elements_fit, vectors_on}
-use borrow.Author.Rules.{rules}
 use Rattle.vectors.proofs.few_at.Goals as goal
 
 pub overflow_mul-count : goal.overflow_mul-count

@@ -1,17 +1,12 @@
 -- `vectors::fours_pass` meets its contract. The loop's invariant: all pass where those before the place did and those left do, and these have room.
 use mathlib.Core.Path.{◌≡◌, ◌∙◌, sym}
-use mathlib.Core.Bool.{false}
-use Prim.Native.Nat.{◌+◌, ◌*◌, ◌≤◌}
 use native.Mathlib.Omega.{arith}
-use lib.ListN.{drop, length}
-use Rattle.words.specs.Pick.{pick}
 use Rattle.words.proofs.Words.{number_at}
 use Rattle.values.proofs.Room.{room}
 use Rattle.vectors.specs.Engine.{all_passed}
 use Rattle.words.proofs.Pick.{pick_test}
 use Rattle.vectors.specs.Vectors.{numbers}
 use Rattle.vectors.proofs.Plain.{sweep_turn}
-use borrow.Author.Rules.{rules}
 use Rattle.vectors.proofs.fours_pass.Goals as goal
 
 pub loop-left-preserved : goal.loop-left-preserved

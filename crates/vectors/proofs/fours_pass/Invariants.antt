@@ -1,20 +1,13 @@
 -- `vectors::fours_pass` meets its contract. The loop's invariant: all pass where those before the place did and those left do, and these have room.
-use mathlib.Core.Path.{◌≡◌, ◌∙◌, sym}
+use mathlib.Core.Path.{◌≡◌}
 use mathlib.Core.Bool.{false}
 use Prim.Native.Nat.{◌+◌, ◌*◌, ◌≤◌}
-use native.Mathlib.Omega.{arith}
 use lib.ListN.{drop, length}
 use Rattle.words.specs.Pick.{pick}
-use Rattle.words.proofs.Words.{number_at}
-use Rattle.values.proofs.Room.{room}
 use Rattle.vectors.specs.Engine.{all_passed}
-use Rattle.words.proofs.Pick.{pick_test}
 use Rattle.vectors.specs.Vectors.{numbers}
-use Rattle.vectors.proofs.Plain.{sweep_turn}
-use borrow.Author.Rules.{rules}
 use Rattle.vectors.proofs.fours_pass.Given as goal
 
--- `vectors::fours_pass` meets its contract. The loop's invariant: all pass where those before the place did and those left do, and these have room.
 abbrev pub invariant-loop-left : goal.invariant-loop-left
 invariant-loop-left l =
     (all_passed l.low l.high l.missing l.most (numbers 4 l.count (drop l.from l.part)) ≡ pick l.good (all_passed l.low l.high l.missing l.most (numbers 4 l.left (drop l.at l.part))) false) × (l.at + l.left * 4 ≤ length l.part)

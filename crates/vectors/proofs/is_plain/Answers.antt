@@ -1,11 +1,10 @@
 -- `vectors::is_plain` meets its contract.
-use mathlib.Core.Path.{◌≡◌, ◌∙◌, sym}
+use mathlib.Core.Path.{◌∙◌, sym}
 use Prim.Native.Nat.{ℕ}
 use native.Mathlib.Omega.{arith}
 use lib.ListN.{drop}
 use Rattle.vectors.specs.Vectors.{numbers}
 use Rattle.vectors.proofs.Plain.{all_more, all_on, on_1, on_2, on_3, on_5, on_7, width_1, width_2, width_3, width_5, width_7}
-use borrow.Author.Rules.{rules}
 use Rattle.vectors.proofs.is_plain.Goals as goal
 
 pub bytes_pass-requires : goal.bytes_pass-requires

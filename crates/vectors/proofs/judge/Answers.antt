@@ -1,12 +1,9 @@
 -- `vectors::judge` meets its contract. The loop's invariant: the part is judged as the vectors that are left of it, and those have room.
 use mathlib.Core.Path.{◌≡◌, ◌∙◌}
-use Prim.Native.Nat.{◌+◌, ◌*◌, ◌/◌, ◌≤◌}
 use native.Mathlib.Omega.{arith}
-use lib.ListN.{drop, length}
 use Rattle.vectors.specs.Vectors.{judged, vectors}
 use Rattle.vectors.proofs.Plain.{vectors_block, block_room, block_one, some_width}
 use Rattle.vectors.proofs.Turns.{vectors_fit}
-use borrow.Author.Rules.{rules}
 use Rattle.vectors.proofs.judge.Goals as goal
 
 pub loop-left-init : goal.loop-left-init

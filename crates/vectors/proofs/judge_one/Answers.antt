@@ -1,6 +1,5 @@
 -- `vectors::judge_one` meets its contract.
 use borrow.Author.Tests.{le-ltb, lt-ltb}
-use borrow.Author.Rules.{rules}
 use Rattle.vectors.proofs.judge_one.Goals as goal
 
 pub returns-then-ended : goal.returns-then-ended

@@ -1,5 +1,4 @@
 -- `vectors::most_of` meets its contract.
-use borrow.Author.Rules.{rules}
 use Rattle.vectors.proofs.most_of.Goals as goal
 
 pub returns-in-Gt : goal.returns-in-Gt

@@ -1,11 +1,8 @@
 -- `vectors::sixteens_at` meets its contract. The loop's invariant: the vectors are judged as those that are left, and those have room.
 use mathlib.Core.Path.{◌≡◌, ◌∙◌}
-use Prim.Native.Nat.{◌+◌, ◌*◌, ◌≤◌}
 use native.Mathlib.Omega.{arith}
-use lib.ListN.{drop, length}
 use Rattle.vectors.specs.Vectors.{vectors}
 use Rattle.vectors.proofs.Plain.{vectors_block, block_room, block_one}
-use borrow.Author.Rules.{rules}
 use Rattle.vectors.proofs.sixteens_at.Goals as goal
 
 pub few_at-f-requires : goal.few_at-f-requires

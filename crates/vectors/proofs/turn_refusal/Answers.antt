@@ -1,5 +1,4 @@
 -- `vectors::turn_refusal` meets its contract.
-use borrow.Author.Rules.{rules}
 use Rattle.vectors.proofs.turn_refusal.Goals as goal
 
 pub returns-in-Bad : goal.returns-in-Bad

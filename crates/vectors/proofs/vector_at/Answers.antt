@@ -1,14 +1,10 @@
 -- `vectors::vector_at` meets its contract. The loop's invariant: the vector is judged as what is left of it, and what is left has room.
 use mathlib.Core.Path.{◌≡◌, ◌∙◌}
-use mathlib.Core.Bool.{false}
-use Prim.Native.Nat.{◌+◌, ◌*◌, ◌≤◌}
 use native.Mathlib.Omega.{arith}
-use lib.ListN.{drop, length}
 use Rattle.words.proofs.Words.{number_at}
 use Rattle.values.proofs.Room.{room}
 use Rattle.vectors.specs.Vectors.{numbers, vector}
 use Rattle.vectors.proofs.Turns.{vector_turn}
-use borrow.Author.Rules.{rules}
 use Rattle.vectors.proofs.vector_at.Goals as goal
 
 pub overflow_add-stop : goal.overflow_add-stop

@@ -1,17 +1,11 @@
 -- `vectors::vector_at` meets its contract. The loop's invariant: the vector is judged as what is left of it, and what is left has room.
-use mathlib.Core.Path.{◌≡◌, ◌∙◌}
+use mathlib.Core.Path.{◌≡◌}
 use mathlib.Core.Bool.{false}
 use Prim.Native.Nat.{◌+◌, ◌*◌, ◌≤◌}
-use native.Mathlib.Omega.{arith}
 use lib.ListN.{drop, length}
-use Rattle.words.proofs.Words.{number_at}
-use Rattle.values.proofs.Room.{room}
 use Rattle.vectors.specs.Vectors.{numbers, vector}
-use Rattle.vectors.proofs.Turns.{vector_turn}
-use borrow.Author.Rules.{rules}
 use Rattle.vectors.proofs.vector_at.Given as goal
 
--- `vectors::vector_at` meets its contract. The loop's invariant: the vector is judged as what is left of it, and what is left has room.
 abbrev pub invariant-loop-left : goal.invariant-loop-left
 invariant-loop-left l =
     (vector l.most l.code l.w l.from false (numbers l.w l.len (drop l.from l.part)) ≡ vector l.most l.code l.w l.at l.ended (numbers l.w l.left (drop l.at l.part))) × (l.at + l.left * l.w ≤ length l.part)

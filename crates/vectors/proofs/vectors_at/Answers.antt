@@ -1,12 +1,9 @@
 -- `vectors::vectors_at` meets its contract. The loop's invariant: the vectors are judged as those that are left, and those have room.
 use mathlib.Core.Path.{◌≡◌, ◌∙◌}
-use Prim.Native.Nat.{◌+◌, ◌*◌, ◌≤◌}
 use native.Mathlib.Omega.{arith}
-use lib.ListN.{drop, length}
 use Rattle.values.proofs.Room.{room}
 use Rattle.vectors.specs.Vectors.{vectors}
 use Rattle.vectors.proofs.Turns.{vectors_turn}
-use borrow.Author.Rules.{rules}
 use Rattle.vectors.proofs.vectors_at.Goals as goal
 
 pub vector_at-v-requires : goal.vector_at-v-requires

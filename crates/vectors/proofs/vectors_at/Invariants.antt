@@ -1,15 +1,10 @@
 -- `vectors::vectors_at` meets its contract. The loop's invariant: the vectors are judged as those that are left, and those have room.
-use mathlib.Core.Path.{◌≡◌, ◌∙◌}
+use mathlib.Core.Path.{◌≡◌}
 use Prim.Native.Nat.{◌+◌, ◌*◌, ◌≤◌}
-use native.Mathlib.Omega.{arith}
 use lib.ListN.{drop, length}
-use Rattle.values.proofs.Room.{room}
 use Rattle.vectors.specs.Vectors.{vectors}
-use Rattle.vectors.proofs.Turns.{vectors_turn}
-use borrow.Author.Rules.{rules}
 use Rattle.vectors.proofs.vectors_at.Given as goal
 
--- `vectors::vectors_at` meets its contract. The loop's invariant: the vectors are judged as those that are left, and those have room.
 abbrev pub invariant-loop-left : goal.invariant-loop-left
 invariant-loop-left l =
     (vectors l.most l.code l.w l.len l.count l.from (drop l.from l.part) ≡ vectors l.most l.code l.w l.len l.left l.at (drop l.at l.part)) × (l.at + l.left * (l.len * l.w) ≤ length l.part)

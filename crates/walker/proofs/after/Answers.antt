@@ -1,5 +1,4 @@
 -- `walker::after` meets its contract.
-use borrow.Author.Rules.{rules}
 use Rattle.walker.proofs.after.Goals as goal
 
 pub returns-in-Found : goal.returns-in-Found

@@ -1,5 +1,4 @@
 -- `walker::as_pair` meets its contract.
-use borrow.Author.Rules.{rules}
 use Rattle.walker.proofs.as_pair.Goals as goal
 
 pub returns-in-Field : goal.returns-in-Field

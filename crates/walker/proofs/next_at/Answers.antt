@@ -1,5 +1,4 @@
 -- `walker::next_at` meets its contract.
-use borrow.Author.Rules.{rules}
 use Rattle.walker.proofs.next_at.Goals as goal
 
 pub returns : goal.returns

@@ -1,6 +1,5 @@
 -- `walker::opening_of` meets its contract.
 use Rattle.walker.specs.Walk.{opened}
-use borrow.Author.Rules.{rules}
 use Rattle.walker.proofs.opening_of.Goals as goal
 
 pub returns-in_default : goal.returns-in_default

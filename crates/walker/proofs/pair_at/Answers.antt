@@ -5,7 +5,6 @@ use lib.Seq.{length-take-le}
 use borrow.Author.Tests.{lt-ltb, le-ltb}
 use Rattle.words.proofs.Words.{number_part}
 use Rattle.walker.specs.Walk.{pair_at}
-use borrow.Author.Rules.{rules}
 use Rattle.walker.proofs.pair_at.Goals as goal
 
 pub returns-then-s-lt8 : goal.returns-then-s-lt8

@@ -1,6 +1,5 @@
 -- `walker::pair_in` meets its contract.
 use Rattle.walker.specs.Walk.{pair_in}
-use borrow.Author.Rules.{rules}
 use Rattle.walker.proofs.pair_in.Goals as goal
 
 pub returns : goal.returns

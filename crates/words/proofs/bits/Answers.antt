@@ -5,7 +5,6 @@ use mir.Facts.{sfits_widen}
 use mir.Syntax.{w32, w64}
 use Rattle.words.proofs.bits.Goals as goal
 
--- `words::bits` meets its contract. A negative number goes by way of 64 bits: laws of proofs/Sign.
 pub overflow_cast-result : goal.overflow_cast-result
 overflow_cast-result c =
     let z = c.args.z in

@@ -3,7 +3,6 @@ use borrow.Author.Tests.{le-leb, lt-leb}
 use Rattle.words.specs.Words.{outside}
 use Rattle.words.proofs.is_outside.Goals as goal
 
--- `words::is_outside` meets its contract.
 pub returns-then-bits-ge2147483648 : goal.returns-then-bits-ge2147483648
 unfolding outside
 returns-then-bits-ge2147483648 c = simp (le-leb _ _ c.if-bits-ge2147483648.true)

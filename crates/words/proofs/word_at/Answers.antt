@@ -4,7 +4,6 @@ use native.Mathlib.Nat.{add-sub_cancel_left}
 use Rattle.words.proofs.Words.{number_past, number_rest}
 use Rattle.words.proofs.word_at.Goals as goal
 
--- `words::word_at` meets its contract. By where the slice ends: laws `number_past`, `number_rest`.
 pub returns-then-s-at : goal.returns-then-s-at
 returns-then-s-at c =
     let a = c.args in
