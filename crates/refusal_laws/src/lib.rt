@@ -1,1 +1,2 @@
 // What holds of refusals: no code.
+#![tactic(auto)]

@@ -1,1 +1,2 @@
 // What holds of VCF lines: no code.
+#![tactic(auto)]
