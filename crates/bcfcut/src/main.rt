@@ -4,7 +4,10 @@ use cuts::{Stage, Stepped};
 use lines::Taken;
 use pump::{Piece, Wrote};
 
-fn main() {
+fn main(rt: HostRuntime) {
+    let mut input = rt.stdin();
+    let mut output = rt.stdout();
+    let mut errors = rt.stderr();
     let mut piece = [0u8; 65536];
     // One character more than a choice's line may have, and so than any: a longer one is then known to be bad.
     let mut line = [0u8; 240001];
@@ -22,7 +25,7 @@ fn main() {
     while 0 < turns {
         turns -= 1;
         if at == end {
-            let got = pump::next_piece(&mut piece, held);
+            let got = pump::next_piece(&mut input, &mut errors, &mut piece, held);
             match got {
                 Piece::Bytes(n) => {
                     end = n;
@@ -56,10 +59,10 @@ fn main() {
             waiting: n,
         } = s
         else {
-            pump::say_no_room();
+            pump::say_no_room(&mut errors);
             return;
         };
-        let w = pump::make_room(&out, n, 60001);
+        let w = pump::make_room(&mut output, &mut errors, &out, n, 60001);
         let Wrote::Waiting(k) = w else {
             return;
         };
@@ -78,19 +81,21 @@ fn main() {
         waiting: n,
     } = s
     else {
-        pump::say_no_room();
+        pump::say_no_room(&mut errors);
         return;
     };
-    if pump::write_waiting(&out, n) {
+    if pump::write_waiting(&mut output, &mut errors, &out, n) {
         let by = cuts::ended_by(last);
         if by == 1 {
             pump::say(
+                &mut errors,
                 b"bcfcut: the first line has to be 32 hexadecimal digits: strings, contigs, people and GT offset, eight each",
             );
             return;
         }
         if by == 2 {
             pump::say(
+                &mut errors,
                 b"bcfcut: the second line has to be the people chosen, eight hexadecimal digits each, at most 30,000 of them",
             );
         }

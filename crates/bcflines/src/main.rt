@@ -4,7 +4,10 @@ use frames::{Stage, Stepped};
 use lines::Taken;
 use pump::{Piece, Wrote};
 
-fn main() {
+fn main(rt: HostRuntime) {
+    let mut input = rt.stdin();
+    let mut output = rt.stdout();
+    let mut errors = rt.stderr();
     let mut piece = [0u8; 65536];
     // One character more than a line may have: a longer one is then known to be bad.
     let mut line = [0u8; 60001];
@@ -20,7 +23,7 @@ fn main() {
     while 0 < turns {
         turns -= 1;
         if at == end {
-            let got = pump::next_piece(&mut piece, held);
+            let got = pump::next_piece(&mut input, &mut errors, &mut piece, held);
             match got {
                 Piece::Bytes(n) => {
                     end = n;
@@ -46,10 +49,10 @@ fn main() {
             waiting: n,
         } = s
         else {
-            pump::say_no_room();
+            pump::say_no_room(&mut errors);
             return;
         };
-        let w = pump::make_room(&out, n, 2048);
+        let w = pump::make_room(&mut output, &mut errors, &out, n, 2048);
         let Wrote::Waiting(k) = w else {
             return;
         };
@@ -68,12 +71,13 @@ fn main() {
         waiting: n,
     } = s
     else {
-        pump::say_no_room();
+        pump::say_no_room(&mut errors);
         return;
     };
-    if pump::write_waiting(&out, n) {
+    if pump::write_waiting(&mut output, &mut errors, &out, n) {
         if frames::is_ended(last) {
             pump::say(
+                &mut errors,
                 b"bcflines: the first line has to be 32 hexadecimal digits: strings, contigs, people and GT offset, eight each",
             );
         }

@@ -3,6 +3,7 @@
 use build::{Builder, Turned};
 use facts::Facts;
 use positions::BcfPosition;
+use std::io::Write;
 
 // Whether a turn was taken.
 fn is_taken(turned: Turned) -> bool {
@@ -68,27 +69,41 @@ fn all_turns(facts: Facts, buf: &mut [u8]) -> Turned {
 }
 
 // Prints the answer to a record's line.
-fn print_answer(line: &[u8], facts: Facts, frame: &mut [u8], out: &mut [u8]) {
+fn print_answer<W: Write>(
+    output: &mut W,
+    line: &[u8],
+    facts: Facts,
+    frame: &mut [u8],
+    out: &mut [u8],
+) {
     let a = frames::answer_line(line, facts, frame, out);
     let frames::Answer::Text(n) = a else {
         return;
     };
-    io::write_all(1, &out[..n]);
+    let _ = output.write_all(&out[..n]);
 }
 
 // Prints a record's bytes as a line, then the answer to that line.
-fn print_record(part: &[u8], facts: Facts, line: &mut [u8], frame: &mut [u8], out: &mut [u8]) {
+fn print_record<W: Write>(
+    output: &mut W,
+    part: &[u8],
+    facts: Facts,
+    line: &mut [u8],
+    frame: &mut [u8],
+    out: &mut [u8],
+) {
     let size = part.len();
     if line.len() / 2 < size {
         return;
     }
     capitals::put_capitals(line, 0, part);
-    io::write_all(1, &line[..size * 2]);
-    io::write_all(1, b"\n");
-    print_answer(&line[..size * 2], facts, frame, out);
+    let _ = output.write_all(&line[..size * 2]);
+    let _ = output.write_all(b"\n");
+    print_answer(output, &line[..size * 2], facts, frame, out);
 }
 
-fn main() {
+fn main(rt: HostRuntime) {
+    let mut output = rt.stdout();
     let mut buf = [0u8; 64];
     let mut line = [0u8; 128];
     let mut frame = [0u8; 64];
@@ -102,11 +117,18 @@ fn main() {
     let last = all_turns(facts, &mut buf);
     let n = last.state.at as usize;
     if !is_taken(last) {
-        io::write_all(1, b"refused\n");
+        let _ = output.write_all(b"refused\n");
         return;
     }
     if 64 < n {
         return;
     }
-    print_record(&buf[..n], facts, &mut line, &mut frame, &mut out);
+    print_record(
+        &mut output,
+        &buf[..n],
+        facts,
+        &mut line,
+        &mut frame,
+        &mut out,
+    );
 }

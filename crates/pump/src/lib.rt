@@ -6,6 +6,9 @@ ghost use Rattle.std.specs.Prelude.{ltb, length};
 ghost use Rattle.stores.specs.Stores.{fits};
 ghost use Rattle.pump.specs.Pump.{PieceInside, WroteInside, RoomMade};
 
+use std::io;
+use std::io::{Read, Write};
+
 // The next piece of the input: so many bytes of it; none, where the input has ended; or a read that failed, which is told.
 #[derive(Clone, Copy)]
 pub enum Piece {
@@ -22,28 +25,49 @@ pub enum Wrote {
 }
 
 // Tells on standard error that a buffer is too short.
-pub fn say_no_room() {
-    io::write_all(2, b"a buffer is too short\n");
+pub fn say_no_room<E: Write>(errors: &mut E) {
+    say(errors, b"a buffer is too short");
 }
 
 // Tells a line on standard error.
-pub fn say(text: &[u8]) {
-    io::write_all(2, text);
-    io::write_all(2, b"\n");
+pub fn say<E: Write>(errors: &mut E, text: &[u8]) {
+    let _ = errors.write_all(text);
+    let _ = errors.write_all(b"\n");
+}
+
+// Tells on standard error what failed, and why in the system's words, without the number that std puts behind them.
+fn say_failed<E: Write>(errors: &mut E, what: &str, error: io::Error) {
+    let mut text = [0u8; 256];
+    let mut room = &mut text[..];
+    let _ = write!(room, "{error}");
+    let left = room.len();
+    let n = text.len().saturating_sub(left);
+    let words = str::from_utf8(&text[..n]).unwrap_or("");
+    let why = match words.split_once(" (os error ") {
+        Some((before, _)) => before,
+        None => words,
+    };
+    let _ = writeln!(errors, "{what}: {why}");
 }
 
 // Reads the next piece of standard input. Where it has ended, a line of which bytes are held gets the feed that it lacks.
-pub fn next_piece(piece: &mut [u8], held: usize) -> Piece
+pub fn next_piece<R: Read, E: Write>(
+    input: &mut R,
+    errors: &mut E,
+    piece: &mut [u8],
+    held: usize,
+) -> Piece
     ensures inside { PieceInside (length piece.old) result }
 {
-    let got = libc::read(0, piece);
-    let n = io::count(got, piece);
+    let n = match input.read(piece) {
+        Ok(n) => n,
+        Err(error) => {
+            say_failed(errors, "standard input", error);
+            return Piece::Failed;
+        }
+    };
     if 0 < n {
         return Piece::Bytes(n);
-    }
-    if got < 0 {
-        os::fail(b"standard input");
-        return Piece::Failed;
     }
     if held == 0 {
         return Piece::End;
@@ -56,28 +80,41 @@ pub fn next_piece(piece: &mut [u8], held: usize) -> Piece
 }
 
 // Writes the text that waits at the start of a buffer to standard output, and says whether all of it was written; where it was not, that is told.
-pub fn write_waiting(out: &[u8], waiting: usize) -> bool
+pub fn write_waiting<W: Write, E: Write>(
+    output: &mut W,
+    errors: &mut E,
+    out: &[u8],
+    waiting: usize,
+) -> bool
     ensures { WroteInside (ltb (length out.now) waiting) result }
 {
     if out.len() < waiting {
-        say_no_room();
+        say_no_room(errors);
         return false;
     }
-    if io::write_all(1, &out[..waiting]) {
-        return true;
+    match output.write_all(&out[..waiting]) {
+        Ok(()) => true,
+        Err(error) => {
+            say_failed(errors, "standard output", error);
+            false
+        }
     }
-    os::fail(b"standard output");
-    false
 }
 
 // Makes room for so many bytes behind what waits: that is written where there is less.
-pub fn make_room(out: &[u8], waiting: usize, room: usize) -> Wrote
+pub fn make_room<W: Write, E: Write>(
+    output: &mut W,
+    errors: &mut E,
+    out: &[u8],
+    waiting: usize,
+    room: usize,
+) -> Wrote
     ensures { RoomMade (fits (length out.now) waiting room) waiting result }
 {
     if stores::has_room(out.len(), waiting, room) {
         return Wrote::Waiting(waiting);
     }
-    if write_waiting(out, waiting) {
+    if write_waiting(output, errors, out, waiting) {
         return Wrote::Waiting(0);
     }
     Wrote::Failed
