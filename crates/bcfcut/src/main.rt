@@ -1,5 +1,7 @@
 // The cutting program: reads hexadecimal frames from standard input, a line each, and writes those of the release.
 // What is said of a line is cuts', where a line ends is lines', and how bytes come and go is pump's; this hands them on.
+#![tactic(auto)]
+
 use cuts::{Stage, Stepped};
 use lines::Taken;
 use pump::{Piece, Wrote};

@@ -1,5 +1,7 @@
 // The line program: reads hexadecimal frames from standard input, a line each, and writes an answer line for each record.
 // What is said of a line is frames', where a line ends is lines', and how bytes come and go is pump's; this hands them on.
+#![tactic(auto)]
+
 use frames::{Stage, Stepped};
 use lines::Taken;
 use pump::{Piece, Wrote};

@@ -1,5 +1,7 @@
 // The building example: builds 01's sample record turn by turn, prints its bytes in hexadecimal capitals, and reads that text back.
 // Everything that is said of a turn is build's and everything that is said of a line is frames'; this moves bytes.
+#![tactic(auto)]
+
 use build::{Builder, Turned};
 use facts::Facts;
 use positions::BcfPosition;
