@@ -1,10 +1,10 @@
 // What moves a line program's bytes: a piece read, what waits written, and what goes wrong outside told on standard error.
-// Rests on stores for what has room; what is read or written no contract can say, so these promise ranges.
+// Rests on stores for what has room. Of what is read or written these promise ranges; and of a reader or a writer that tells its bytes, which ones.
 #![tactic(auto)]
 
 ghost use Rattle.std.specs.Prelude.{ltb, length};
 ghost use Rattle.stores.specs.Stores.{fits};
-ghost use Rattle.pump.specs.Pump.{PieceInside, WroteInside, RoomMade};
+ghost use Rattle.pump.specs.Pump.{PieceInside, PieceTaken, WroteInside, WaitingWritten, RoomMade, RoomWritten};
 
 use std::io;
 use std::io::{Read, Write};
@@ -58,6 +58,7 @@ pub fn next_piece<R: Read, E: Write>(
     held: usize,
 ) -> Piece
     ensures inside { PieceInside (length piece.old) result }
+    ensures taken { PieceTaken (R.remaining input.old) (R.remaining input.new) held piece.new result }
 {
     let n = match input.read(piece) {
         Ok(n) => n,
@@ -86,7 +87,8 @@ pub fn write_waiting<W: Write, E: Write>(
     out: &[u8],
     waiting: usize,
 ) -> bool
-    ensures { WroteInside (ltb (length out.now) waiting) result }
+    ensures inside { WroteInside (ltb (length out.now) waiting) result }
+    ensures written { WaitingWritten (W.contents output.old) (W.contents output.new) out.now waiting result }
 {
     if out.len() < waiting {
         say_no_room(errors);
@@ -109,7 +111,8 @@ pub fn make_room<W: Write, E: Write>(
     waiting: usize,
     room: usize,
 ) -> Wrote
-    ensures { RoomMade (fits (length out.now) waiting room) waiting result }
+    ensures inside { RoomMade (fits (length out.now) waiting room) waiting result }
+    ensures written { RoomWritten (fits (length out.now) waiting room) (W.contents output.old) (W.contents output.new) out.now waiting result }
 {
     if stores::has_room(out.len(), waiting, room) {
         return Wrote::Waiting(waiting);
