@@ -9,6 +9,9 @@ ghost use Rattle.pump.specs.Pump.{PieceInside, PieceTaken, WroteInside, WaitingW
 use std::io;
 use std::io::{Read, Write};
 
+#[cfg(test)]
+mod tests;
+
 // The next piece of the input: so many bytes of it; none, where the input has ended; or a read that failed, which is told.
 #[derive(Clone, Copy)]
 pub enum Piece {
