@@ -1,6 +1,6 @@
 -- The answer to an accepted record, over 64 alleles and up to them. Rests on specs/Frames.
 use mathlib.Core.Path.{◌≡◌, refl, sym, ap, ◌∙◌}
-use mathlib.Core.List.{List, ◌∷◌, ◌++◌}
+use mathlib.Core.List.{List, ◌∷◌, ◌++◌, []}
 use Prim.Native.Nat.{ℕ, ◌+◌, ◌<◌, ◌≤◌}
 use lib.ListN.{length, take}
 use lib.Dec.{ltb}

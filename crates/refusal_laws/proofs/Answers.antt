@@ -1,7 +1,7 @@
 -- Answers that are told in one number: what stands in its halves, and that a refusal leaves the lent numbers and bytes as they were. Rests on
 -- proofs/AfterReading and proofs/Turns, and on how an answer is told.
 use mathlib.Core.Path.{◌≡◌, refl}
-use mathlib.Core.List.{List, ◌∷◌, ◌++◌}
+use mathlib.Core.List.{List, ◌∷◌, ◌++◌, []}
 use mathlib.Core.Bool.{Bool, true, false}
 use Prim.Native.Nat.{ℕ, ◌-◌, ◌/◌, ◌%◌, ◌≤◌}
 use native.Mathlib.Nat.{zero-add}

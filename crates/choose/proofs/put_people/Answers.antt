@@ -1,4 +1,5 @@
 -- `choose::put_people` meets its contract. The loop's invariant: everybody's parts stored are those of the people who are left, stored from here on.
+use mathlib.Core.List.{[]}
 use mathlib.Core.Path.{◌≡◌, ◌∙◌, ap, refl, sym}
 use Prim.Native.Nat.{ℕ, ◌*◌}
 use native.Mathlib.Omega.{arith}

@@ -1,4 +1,5 @@
 -- `frames::put_numbers` meets its contract. The loop's invariant: the numbers are stored as those that are left, which have room.
+use mathlib.Core.List.{[]}
 use mathlib.Core.Path.{◌≡◌, ◌∙◌, ap, sym}
 use Prim.Native.Nat.{suc, ◌+◌, ◌*◌, ◌≤◌}
 use lib.ListN.{drop, get_or, length, set, drop_of_length-le, length-append, length-set}

@@ -1,4 +1,5 @@
 -- `genotypes::genotype_block` meets its contract. The loop's invariant: the fields from the start on are those that are left, after the keys in the array.
+use mathlib.Core.List.{[]}
 use mathlib.Core.Path.{◌≡◌}
 use Prim.Native.Nat.{◌+◌}
 use lib.ListN.{drop, length, take}

@@ -1,6 +1,6 @@
 -- `vcf_calls::put_column` meets its contract.
 use native.Mathlib.Omega.{arith}
-use mathlib.Core.List.{◌∷◌}
+use mathlib.Core.List.{◌∷◌, []}
 use lib.ListN.{drop}
 use Rattle.vectors.specs.Vectors.{shown_numbers}
 use Rattle.pieces.proofs.Put.{then_put}

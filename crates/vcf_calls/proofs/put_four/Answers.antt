@@ -1,5 +1,5 @@
 -- `vcf_calls::put_four` meets its contract.
-use mathlib.Core.List.{◌∷◌}
+use mathlib.Core.List.{◌∷◌, []}
 use native.Mathlib.Omega.{arith}
 use Rattle.pieces.proofs.Put.{all_to_put, put_some, put_last}
 use Rattle.vcf_calls.proofs.put_four.Goals as goal

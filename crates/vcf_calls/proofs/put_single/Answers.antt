@@ -1,5 +1,5 @@
 -- `vcf_calls::put_single` meets its contract.
-use mathlib.Core.List.{◌∷◌}
+use mathlib.Core.List.{◌∷◌, []}
 use native.Mathlib.Omega.{arith}
 use Rattle.pieces.proofs.Put.{then_put}
 use Rattle.vcf_calls.specs.Engine.{single_text}

@@ -1,5 +1,5 @@
 -- `vcf_line::put_end` meets its contract.
-use mathlib.Core.List.{◌∷◌, ◌++◌}
+use mathlib.Core.List.{◌∷◌, ◌++◌, []}
 use native.Mathlib.Omega.{arith}
 use Rattle.pieces.proofs.Put.{all_to_put, put_some, put_last}
 use Rattle.vcf_line.specs.Engine.{genotypes_text, end_text}

@@ -1,5 +1,5 @@
 -- `vcf_line::put_genotypes` meets its contract.
-use mathlib.Core.List.{◌∷◌}
+use mathlib.Core.List.{◌∷◌, []}
 use native.Mathlib.Omega.{arith}
 use lib.ListN.{replicate}
 use Rattle.genotypes.specs.Formats.{gt_part}

@@ -1,5 +1,5 @@
 -- `vcf_line::put_qual` meets its contract.
-use mathlib.Core.List.{◌∷◌}
+use mathlib.Core.List.{◌∷◌, []}
 use native.Mathlib.Omega.{arith}
 use Rattle.pieces.proofs.Put.{then_put}
 use Rattle.vcf_qual.specs.Qual.{qual_text}

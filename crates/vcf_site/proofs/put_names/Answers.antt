@@ -1,6 +1,6 @@
 -- `vcf_site::put_names` meets its contract.
 use mathlib.Core.Path.{◌≡◌}
-use mathlib.Core.List.{◌∷◌, ◌++◌, map}
+use mathlib.Core.List.{◌∷◌, ◌++◌, map, []}
 use Prim.Native.Nat.{◌-◌}
 use native.Mathlib.Omega.{arith}
 use lib.ListN.{length, drop}
