@@ -26,11 +26,12 @@ RoomMade true waiting Failed = ⊥
 RoomMade false waiting (Waiting n) = n ≡ 0
 RoomMade false waiting Failed = Unit {0}
 
--- what reading a piece did to the bytes that the reader has left, where they are known: the piece has the first of them, and they are gone; or none are left,
+-- what reading a piece did to the bytes that the reader has left, where they are known: the piece has the first of them, one at least, and they are gone; or none are left,
 -- and the piece has one line feed for a line of which bytes are held. At the end, where the piece has room, none are left and no line is held; a read that
 -- failed took none
 abbrev pub PieceTaken : Option (List ℕ) → Option (List ℕ) → ℕ → List ℕ → Piece → Type 0
-PieceTaken old new held piece (Bytes n) = Consumes old new (take n piece) ⊎ (IsAtEnd old × Keeps old new × (0 < held) × (take n piece ≡ 10 ∷ []))
+PieceTaken old new held piece (Bytes n) =
+    (0 < n) × (Consumes old new (take n piece) ⊎ (IsAtEnd old × Keeps old new × (0 < held) × (take n piece ≡ 10 ∷ [])))
 PieceTaken old new held piece End = Keeps old new × (0 < length piece → IsAtEnd old × (held ≡ 0))
 PieceTaken old new held piece Unread = Keeps old new
 

@@ -9,4 +9,4 @@ returns-clause-taken g c =
     let z : c.in-Ok.n ≡ 0 = omega (arith, c.if-n-gt0.false) in
     let r : 0 < length c.read.new.buf = omega (arith, c.if-piece-eq0.false) in
     let e = ended _ _ (rw z at b.0) (b.1 z r) in
-    inr (e.0, e.1, omega (arith, c.if-held-eq0.false), fed _ r)
+    (omega arith, inr (e.0, e.1, omega (arith, c.if-held-eq0.false), fed _ r))
