@@ -7,22 +7,21 @@ use native.Mathlib.Omega.{arith}
 use lib.ListN.{take, drop, length-drop, replicate}
 use lib.Seq.{length-take-le, drop_at}
 use Rattle.types.specs.declared.Use.TheVariants.{Format}
-use Rattle.vectors.specs.Sound.{sound}
 use Rattle.genotypes.specs.Formats.{format_field, so_many, formats, role_of, gt_now, gt_at}
 use Rattle.genotypes.specs.declared.Gt.{Gt}
-use Rattle.genotypes.specs.declared.Genotypes.TheVariants.{Sound}
 use Rattle.fetch_laws.proofs.FormatFields.{JudgedField, format_there, formats_field, keyed_integer}
 use Rattle.fetch.specs.declared.Kind.TheVariants.{Format as FormatKind}
 use Rattle.fetch_laws.proofs.Fronts.{keyed_front}
 use Rattle.fetch.proofs.Inside.{drop_past}
-use Rattle.bare_laws.specs.Ones.{one_for, pair_one, ones_of}
+use Rattle.bare_laws.specs.Ones.{one_for, ones_of}
 use Rattle.bare_laws.proofs.Values.{code_for, sound_ones, drop_ones}
+use Rattle.std.specs.Prelude.{Ok}
 use Rattle.bare_laws.proofs.Steps.{value_one_there, pair_one_there}
 
 -- where GT stands in what becomes of the block
 pub record Genotyped (strings people gt alleles n : ℕ) (earlier : List ℕ) (known : Gt) (at : ℕ) (l : List ℕ) : Type 0 where
   pub found : Gt
-  pub read : formats strings people gt alleles n earlier known at (ones_of people (replicate n FormatKind) at l) ≡ Sound found
+  pub read : formats strings people gt alleles n earlier known at (ones_of people (replicate n FormatKind) at l) ≡ Ok found
 
 -- one FORMAT field, before what becomes of the rest
 field_ones : (strings people gt alleles n : ℕ) (earlier : List ℕ) (known known' : Gt) (at : ℕ) (l : List ℕ) {g : Gt}
@@ -65,14 +64,14 @@ field_ones strings people gt alleles n earlier known known' at l j =
 
 -- no field is left, and no byte
 none_over_lem : (strings people gt alleles : ℕ) (earlier : List ℕ) (known known' : Gt) (at : ℕ) (l : List ℕ) {g : Gt}
-    → formats strings people gt alleles zero earlier known at l ≡ Sound g → formats strings people gt alleles zero earlier known' at l ≡ Sound known'
+    → formats strings people gt alleles zero earlier known at l ≡ Ok g → formats strings people gt alleles zero earlier known' at l ≡ Ok known'
 unfolding format_field so_many formats
 none_over_lem strings people gt alleles earlier known known' at [] h = refl
 none_over_lem strings people gt alleles earlier known known' at (b ∷ rest) h = cc
 
 -- the law: fields that are sound are sound with 01 in place of each bare 00
 formats_ones : (strings people gt alleles n : ℕ) (earlier : List ℕ) (known known' : Gt) (at : ℕ) (l : List ℕ) {g : Gt}
-    → formats strings people gt alleles n earlier known at l ≡ Sound g → Genotyped strings people gt alleles n earlier known' at l
+    → formats strings people gt alleles n earlier known at l ≡ Ok g → Genotyped strings people gt alleles n earlier known' at l
 unfolding ones_of
 formats_ones strings people gt alleles zero earlier known known' at l h = record { found = known'; read = none_over_lem strings people gt alleles earlier known known' at l h }
 formats_ones strings people gt alleles (suc n) earlier known known' at l h =
@@ -82,5 +81,5 @@ formats_ones strings people gt alleles (suc n) earlier known known' at l h =
     record { found = on.found; read = field_ones strings people gt alleles n earlier known known' at l j ∙ on.read }
 
 pub genotypes_ones : (strings people gt alleles n at : ℕ) (known : Gt) (l : List ℕ) {g : Gt}
-    → formats strings people gt alleles n [] known at l ≡ Sound g → Genotyped strings people gt alleles n [] known at l
+    → formats strings people gt alleles n [] known at l ≡ Ok g → Genotyped strings people gt alleles n [] known at l
 genotypes_ones strings people gt alleles n at known l h = formats_ones strings people gt alleles n [] known known at l h

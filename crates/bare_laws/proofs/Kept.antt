@@ -11,10 +11,6 @@ use Rattle.words.specs.Pick.{pick}
 use Rattle.types.specs.declared.Use.{Use}
 use Rattle.types.specs.declared.Use.TheVariants.{Id, Allele, Filter, Info, Format}
 use Rattle.values.specs.Values.{integer, present}
-use Rattle.values.specs.declared.Integer.{Integer}
-use Rattle.values.specs.declared.Integer.TheVariants.{One, Refused as NoInteger}
-use Rattle.values.specs.declared.Value.{Value}
-use Rattle.values.specs.declared.Value.TheVariants.{Present, Refused as NoValue}
 use Rattle.fixed.specs.Layout.{id_at}
 use Rattle.facts.specs.declared.Facts.{Facts}
 use Rattle.fixed.specs.declared.Site.{Site}
@@ -23,6 +19,10 @@ use Rattle.fetch.specs.Account.{site_kinds}
 use Rattle.fetch.specs.declared.Kind.{Kind}
 use Rattle.fetch.specs.declared.Kind.TheVariants.{Id as IdKind, Allele as AlleleKind, Filter as FilterKind, Info as InfoKind, Format as FormatKind}
 use Rattle.bare_laws.specs.Ones.{Onward, one_for, same_or_one, past_value, value_one, past_key, pair_one, one_of, ones_of, with_ones}
+use Rattle.values.specs.declared.Value.{Value}
+use Rattle.std.specs.Prelude.{Err, Ok}
+use Rattle.values.specs.declared.Integer.{Integer}
+use Rattle.values.specs.Answers.{Answer}
 use Rattle.bare_laws.proofs.Records.{even_ones, part_rest}
 
 -- each byte of the second list is the first's, or 01 for 00
@@ -67,17 +67,17 @@ keeps_value : (vectors : ℕ) (role : Use) (rest : Onward) → Keeps rest → Ke
 unfolding value_one
 keeps_value vectors role rest h at l = by_value (present vectors role at l)
   where
-    by_value : (v : Value) → Kept l (past_value rest at l v)
-    by_value (NoValue r) = kept_same l
-    by_value (Present t n first stop) = kept_one (stop - at) l _ (h stop (drop (stop - at) l))
+    by_value : (v : Answer Value) → Kept l (past_value rest at l v)
+    by_value (Err r) = kept_same l
+    by_value (Ok v) = kept_one (v.stop - at) l _ (h v.stop (drop (v.stop - at) l))
 
 keeps_pair : (vectors : ℕ) (role : Use) (rest : Onward) → Keeps rest → Keeps (pair_one vectors role rest)
 unfolding pair_one
 keeps_pair vectors role rest h at l = by_key (integer at l)
   where
-    by_key : (i : Integer) → Kept l (past_key (value_one vectors role rest) at l i)
-    by_key (NoInteger r) = kept_same l
-    by_key (One key next) = kept_front (next - at) l _ (keeps_value vectors role rest h next (drop (next - at) l))
+    by_key : (i : Answer Integer) → Kept l (past_key (value_one vectors role rest) at l i)
+    by_key (Err r) = kept_same l
+    by_key (Ok i) = kept_front (i.next - at) l _ (keeps_value vectors role rest h i.next (drop (i.next - at) l))
 
 keeps_one : (kind : Kind) (people : ℕ) (rest : Onward) → Keeps rest → Keeps (one_of kind people rest)
 keeps_one IdKind people = keeps_value 1 Id

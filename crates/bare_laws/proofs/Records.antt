@@ -9,23 +9,15 @@ use lib.Seq.{length-take-le, take_at, drop_at, take-nil, drop-nil}
 use Rattle.types.specs.declared.Use.{Use}
 use Rattle.types.specs.declared.Use.TheVariants.{Id, Allele, Filter, Info, Format}
 use Rattle.values.specs.Values.{integer, present}
-use Rattle.values.specs.declared.Integer.{Integer}
-use Rattle.values.specs.declared.Integer.TheVariants.{One, Refused as NoInteger}
-use Rattle.values.specs.declared.Value.{Value}
-use Rattle.values.specs.declared.Value.TheVariants.{Present, Refused as NoValue}
 use Rattle.positions.specs.Positions.{pos_of}
 use Rattle.fixed.specs.Layout.{indiv_at, chrom_at, pos_at, rlen_at, qual_at, counts_at, people_at, id_at, field}
 use Rattle.facts.specs.declared.Facts.{Facts}
 use Rattle.fixed.specs.declared.Site.{Site}
 use Rattle.fixed.specs.Fixed.{fixed}
-use Rattle.fixed.specs.declared.Fixed.TheVariants.{Site as Front}
 use Rattle.fixed.proofs.Fits.{Fits, fits_fixed, people_given}
-use Rattle.site.specs.declared.Step.TheVariants.{At}
 use Rattle.genotypes.specs.Formats.{formats, no_gt}
 use Rattle.genotypes.specs.declared.Gt.{Gt}
-use Rattle.genotypes.specs.declared.Genotypes.TheVariants.{Sound}
-use Rattle.record.specs.Reading.{site_of, genotypes_of, reading}
-use Rattle.record.specs.declared.Reading.TheVariants.{Accepted}
+use Rattle.record.specs.Reading.{site_of, genotypes_of, reading, accepted_as}
 use Rattle.record.proofs.Accepted.{accepted, accepted_fits}
 use Rattle.fetch.specs.Account.{site_kinds}
 use Rattle.fetch.specs.declared.Kind.{Kind}
@@ -35,6 +27,10 @@ use Rattle.fetch_laws.proofs.Fronts.{field_take, field_append}
 use Rattle.bare_laws.specs.Ones.{Onward, past_value, value_one, past_key, pair_one, one_of, ones_of, with_ones}
 use Rattle.bare_laws.proofs.Values.{length_one_for}
 use Rattle.bare_laws.proofs.Steps.{site_ones}
+use Rattle.values.specs.declared.Value.{Value}
+use Rattle.std.specs.Prelude.{Err, Ok}
+use Rattle.values.specs.declared.Integer.{Integer}
+use Rattle.values.specs.Answers.{Answer}
 use Rattle.bare_laws.proofs.Genotypes.{Genotyped, genotypes_ones}
 
 -- what becomes of a block is as long as it was
@@ -48,19 +44,19 @@ even_value : (vectors : ℕ) (role : Use) (rest : Onward) → Even rest → Even
 unfolding value_one
 even_value vectors role rest e at l = by_value (present vectors role at l)
   where
-    by_value : (v : Value) → length (past_value rest at l v) ≡ length l
-    by_value (NoValue r) = refl
-    by_value (Present t n first stop) =
-        rw (length-append, length_one_for (take (stop - at) l), e stop (drop (stop - at) l)) (length_parts (stop - at) l)
+    by_value : (v : Answer Value) → length (past_value rest at l v) ≡ length l
+    by_value (Err r) = refl
+    by_value (Ok v) =
+        rw (length-append, length_one_for (take (v.stop - at) l), e v.stop (drop (v.stop - at) l)) (length_parts (v.stop - at) l)
 
 even_pair : (vectors : ℕ) (role : Use) (rest : Onward) → Even rest → Even (pair_one vectors role rest)
 unfolding pair_one
 even_pair vectors role rest e at l = by_key (integer at l)
   where
-    by_key : (i : Integer) → length (past_key (value_one vectors role rest) at l i) ≡ length l
-    by_key (NoInteger r) = refl
-    by_key (One key next) =
-        rw (length-append, even_value vectors role rest e next (drop (next - at) l)) (length_parts (next - at) l)
+    by_key : (i : Answer Integer) → length (past_key (value_one vectors role rest) at l i) ≡ length l
+    by_key (Err r) = refl
+    by_key (Ok i) =
+        rw (length-append, even_value vectors role rest e i.next (drop (i.next - at) l)) (length_parts (i.next - at) l)
 
 even_one : (kind : Kind) (people : ℕ) (rest : Onward) → Even rest → Even (one_of kind people rest)
 even_one IdKind people = even_value 1 Id
@@ -165,17 +161,17 @@ fits_ones f s t x =
     }
 
 -- a front, a site block and a genotype block that are sound are a record
-whole : (f : Facts) (t : Site) (g : Gt) (s : List ℕ) (e : ℕ) → fixed f s ≡ Front t → site_of f t s ≡ At e → genotypes_of f t s ≡ Sound g
-    → reading f s ≡ Accepted t g
+whole : (f : Facts) (t : Site) (g : Gt) (s : List ℕ) (e : ℕ) → fixed f s ≡ Ok t → site_of f t s ≡ Ok e → genotypes_of f t s ≡ Ok g
+    → reading f s ≡ accepted_as t g
 unfolding reading
 whole f t g s e a b c = rw (a, b, c)
 
-site_of_ones : (f : Facts) (s : List ℕ) (t : Site) (e : ℕ) → Fits f s t → site_of f t s ≡ At e → site_of f t (with_ones t s) ≡ At e
+site_of_ones : (f : Facts) (s : List ℕ) (t : Site) (e : ℕ) → Fits f s t → site_of f t s ≡ Ok e → site_of f t (with_ones t s) ≡ Ok e
 unfolding site_of
 site_of_ones f s t e x h =
     rw (lies f s t x).site (site_ones f.strings t.people t.alleles t.infos id_at (drop id_at (take t.border s)) e h)
 
-genotypes_of_ones : (f : Facts) (s : List ℕ) (t : Site) (g : Gt) → genotypes_of f t s ≡ Sound g
+genotypes_of_ones : (f : Facts) (s : List ℕ) (t : Site) (g : Gt) → genotypes_of f t s ≡ Ok g
     → Genotyped f.strings f.people f.gt t.alleles t.formats [] no_gt t.border (drop t.border (take t.length s))
 unfolding genotypes_of
 genotypes_of_ones f s t g h =
@@ -184,14 +180,14 @@ genotypes_of_ones f s t g h =
 genotypes_there : (f : Facts) (s : List ℕ) (t : Site) (g : Gt) → Fits f s t
     → formats f.strings f.people f.gt t.alleles t.formats [] no_gt t.border
     (ones_of f.people (replicate t.formats FormatKind) t.border (drop t.border (take t.length s)))
-    ≡ Sound g
-    → genotypes_of f t (with_ones t s) ≡ Sound g
+    ≡ Ok g
+    → genotypes_of f t (with_ones t s) ≡ Ok g
 unfolding genotypes_of
 genotypes_there f s t g x h =
     rw ((lies f s t x).genotypes, (people_given f.people t.formats t.people x.people_right).0) h
 
 -- the law: an accepted record is accepted with 01 in place of each bare 00, and its site is the same
-pub reads_ones : (f : Facts) (s : List ℕ) (t : Site) (g : Gt) → reading f s ≡ Accepted t g → Accepts f (with_ones t s) t
+pub reads_ones : (f : Facts) (s : List ℕ) (t : Site) (g : Gt) → reading f s ≡ accepted_as t g → Accepts f (with_ones t s) t
 reads_ones f s t g h =
     let r = accepted f s t g h in
     let x = accepted_fits f s t g h in

@@ -2,25 +2,23 @@
 use mathlib.Core.Path.{◌≡◌, refl, sym, ◌∙◌, ap}
 use mathlib.Core.List.{List, [], ◌∷◌, ◌++◌, append_assoc, append-nil}
 use mathlib.Core.Bool.{Bool, true, false}
-use Prim.Native.Nat.{ℕ, zero, suc, ◌+◌, ◌-◌, ◌*◌, ◌%◌, ◌<◌, ◌≤◌}
+use Prim.Native.Nat.{ℕ, ◌+◌, ◌-◌, ◌*◌, ◌%◌, ◌<◌, ◌≤◌}
 use native.Mathlib.Omega.{arith}
 use lib.Dec.{ltb}
 use lib.ListN.{length, take, drop, length-append, take-append-drop, replicate}
 use lib.Seq.{take_at}
 use Rattle.words.specs.Pick.{pick}
-use Rattle.types.specs.Rows.{row_of, width_of, allowed}
+use Rattle.types.specs.Rows.{row_of, allowed}
 use Rattle.types.specs.declared.Use.{Use}
 use Rattle.types.specs.declared.Use.TheVariants.{Id, Allele, Filter, Info, Format}
 use Rattle.fixed.specs.Layout.{id_at, most_bytes}
 use Rattle.facts.specs.declared.Facts.{Facts}
 use Rattle.fixed.specs.declared.Site.{Site}
 use Rattle.fixed.specs.Fixed.{fixed}
-use Rattle.fixed.specs.declared.Fixed.TheVariants.{Site as Front}
 use Rattle.fixed.proofs.Fits.{fits_fixed}
 use Rattle.genotypes.specs.declared.Gt.{Gt}
-use Rattle.record.specs.Reading.{reading}
+use Rattle.record.specs.Reading.{reading, accepted_as}
 use Rattle.shown.specs.Shown.{Shown, Kind, integers, text, Pair, Field}
-use Rattle.record.specs.declared.Reading.TheVariants.{Accepted}
 use Rattle.record.proofs.Accepted.{accepted}
 use Rattle.encode.specs.Encode.{integer_bytes, descriptor_bytes, value_bytes, elements_bytes}
 use Rattle.shown.specs.Values.{written_as, given_bytes, pair_bytes}
@@ -40,7 +38,9 @@ use Rattle.contents.proofs.Bare.{wide_type}
 use Rattle.bare_laws.specs.Ones.{Onward, as_it_is, one_for, value_one, pair_one, ones_of, with_ones}
 use Rattle.bare_laws.proofs.Values.{one_for_same}
 use Rattle.bare_laws.proofs.Steps.{repeated, site_form, formats_form}
+use Rattle.std.specs.Prelude.{Ok}
 use Rattle.bare_laws.proofs.Records.{part_rest}
+use Rattle.values.specs.Answers.{Answer}
 
 -- no value is written with a descriptor 00
 one_for_given : (k : Kind) (n : ℕ) (xs : List ℕ) → one_for (given_bytes k n xs) ≡ given_bytes k n xs
@@ -207,13 +207,13 @@ written_ones f r k =
     (rw b (genotypes_given f r (id_at + length (site_bytes r)) k (omega arith)))
 
 -- the law
-pub tight_ones : (f : Facts) (s : List ℕ) (t : Site) (g : Gt) → Tight f s → reading f s ≡ Accepted t g → with_ones t s ≡ s
+pub tight_ones : (f : Facts) (s : List ℕ) (t : Site) (g : Gt) → Tight f s → reading f s ≡ accepted_as t g → with_ones t s ≡ s
 tight_ones f s t g x h =
     let r = gives x.turns in
     let k = turns_keep f x.turns x.buf x.finished x.fit in
     let b : s ≡ record_bytes f.people r = x.bytes ∙ wrote_record f x.turns x.buf x.finished x.fit in
-    let front : fixed f (record_bytes f.people r) ≡ Front (site_for f.people r) =
+    let front : fixed f (record_bytes f.people r) ≡ Ok (site_for f.people r) =
     rw (append-nil (record_bytes f.people r)) at (fits_fixed f (record_bytes f.people r ++ []) (site_for f.people r) (fits_record f r [] k)) in
-    let same : Front t ≡ Front (site_for f.people r) = sym (accepted f s t g h).front ∙ ap (fixed f) b ∙ front in
+    let same : ◌≡◌ {A = Answer Site} (Ok t) (Ok (site_for f.people r)) = sym (accepted f s t g h).front ∙ ap (fixed f) b ∙ front in
     let e : t ≡ site_for f.people r = cc in
     ap (λ (u : Site). with_ones u s) e ∙ ap (with_ones (site_for f.people r)) b ∙ written_ones f r k ∙ sym b

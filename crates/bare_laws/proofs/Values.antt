@@ -1,37 +1,35 @@
 -- A value whose descriptor 00 becomes 01: where it stands, what it holds and whether it is sound stay, and of its type 0 becomes 1.
 -- Rests on specs/Ones and on fetch_laws' laws of what stands at a front.
-use mathlib.Core.Path.{◌≡◌, refl, sym, ◌∙◌, ap}
+use mathlib.Core.Path.{◌≡◌, refl, sym, ◌∙◌}
 use mathlib.Core.List.{List, [], ◌∷◌, ◌++◌, append_assoc}
 use mathlib.Core.Logic.{◌≢◌}
 use mathlib.Core.Bool.{Bool, true, false}
 use Prim.Native.Nat.{ℕ, zero, suc, ◌+◌, ◌-◌, ◌*◌, ◌/◌, ◌%◌, ◌<◌, ◌≤◌}
 use native.Mathlib.Omega.{arith}
-use native.Mathlib.Nat.{mul-zero, zero-mul, zero-div, div-mul-le_self}
+use native.Mathlib.Nat.{mul-zero, zero-mul, zero-div}
 use lib.Dec.{eqb, ltb}
 use lib.ListN.{length, take, drop, length-drop}
-use lib.Seq.{length-take-le, take_at, drop_at, take-take}
-use borrow.Author.Tests.{eqb-true, eqb-false, ltb-false, ne_eqb, le-leb}
+use lib.Seq.{length-take-le, take_at, drop_at}
+use borrow.Author.Tests.{eqb-true, eqb-false, ne_eqb, le-leb}
 use Rattle.words.specs.Pick.{pick}
 use Rattle.types.specs.Rows.{row_of, width_of, allowed}
 use Rattle.types.specs.declared.Use.{Use}
 use Rattle.types.specs.declared.Use.TheVariants.{Id, Allele, Filter, Integer as IntegerUse, Info, Format, Gt}
-use Rattle.values.specs.Answers.{no_descriptor, typed}
+use Rattle.values.specs.Answers.{no_descriptor, typed, Answer, whole}
 use Rattle.values.specs.Values.{true_length, with_length, may_stand, described, present}
-use Rattle.values.specs.declared.Integer.{Integer}
-use Rattle.values.specs.declared.Integer.TheVariants.{One, Refused as NoInteger}
-use Rattle.values.specs.declared.Descriptor.TheVariants.{Typed}
-use Rattle.values.specs.declared.Value.TheVariants.{Present}
-use Rattle.values.proofs.Stand.{may_stand_wide, may_stand_zero}
-use Rattle.vectors.specs.Vectors.{vectors as vectors_of, judged, shown_numbers, elements_of}
+use Rattle.values.proofs.Stand.{may_stand_wide}
+use Rattle.vectors.specs.Vectors.{vectors as vectors_of, judged, elements_of, Sound}
 use Rattle.vectors.specs.Sound.{most_of, soundly, sound}
-use Rattle.vectors.specs.declared.Judged.TheVariants.{Sound}
 use Rattle.fetch_laws.proofs.Agree.{sound_there, soundly_judged}
 use Rattle.fetch.proofs.Inside.{present_inside}
 use Rattle.fetch_laws.proofs.Present.{present_typed}
 use Rattle.fetch_laws.proofs.Fronts.{present_front, take_past}
-use Rattle.contents.proofs.Bare.{described_zero, present_zero}
+use Rattle.contents.proofs.Bare.{present_zero}
 use Rattle.contents.proofs.Elements.{elements_of_take, elements_of_none}
+use Rattle.std.specs.Prelude.{Err, Ok}
+use Rattle.values.specs.declared.Integer.{Integer}
 use Rattle.bare_laws.specs.Ones.{one_for}
+use Rattle.values.proofs.Held.{same_typed}
 
 -- the type of a value once its descriptor 00 is 01
 abbrev pub code_for : ℕ → ℕ
@@ -63,19 +61,19 @@ pub one_for_same : (d : ℕ) (l : List ℕ) → d ≢ 0 → one_for (d ∷ l) �
 one_for_same d l h = rw (ne_eqb d 0 h)
 
 -- the type of a descriptor is its low half
-described_type : (role : Use) (at d : ℕ) (rest : List ℕ) (t n first : ℕ) → described role at (d ∷ rest) ≡ Typed t n first → d % 16 ≡ t
+described_type : (role : Use) (at d : ℕ) (rest : List ℕ) (t n first : ℕ) → described role at (d ∷ rest) ≡ typed t n first → d % 16 ≡ t
 unfolding described
 described_type role at d rest t n first h = by_tests (may_stand role (d % 16) (d / 16)) (ltb (d / 16) 15) (true_length (at + 1) rest) h
   where
-    by_tests : (a b : Bool) (i : Integer)
-        → pick a (pick b (typed (d % 16) (d / 16) (at + 1)) (with_length (d % 16) i)) (no_descriptor 6 at) ≡ Typed t n first → d % 16 ≡ t
+    by_tests : (a b : Bool) (i : Answer Integer)
+        → pick a (pick b (typed (d % 16) (d / 16) (at + 1)) (with_length (d % 16) i)) (no_descriptor 6 at) ≡ typed t n first → d % 16 ≡ t
     by_tests false b i e = cc
-    by_tests true true i e = cc
-    by_tests true false (NoInteger r) e = cc
-    by_tests true false (One x next) e = cc
+    by_tests true true i e = (same_typed e).0
+    by_tests true false (Err r) e = cc
+    by_tests true false (Ok i) e = (same_typed e).0
 
 -- so that of another type than 0 is no 00
-described_other : (role : Use) (at : ℕ) (l : List ℕ) (t n first k : ℕ) → described role at l ≡ Typed t n first → eqb t 0 ≡ false
+described_other : (role : Use) (at : ℕ) (l : List ℕ) (t n first k : ℕ) → described role at l ≡ typed t n first → eqb t 0 ≡ false
     → one_for (take k l) ≡ take k l
 described_other role at [] t n first zero h e = refl
 described_other role at [] t n first (suc k) h e = refl
@@ -91,18 +89,18 @@ one_wide = omega arith
 
 -- 01 in the place of a bare 00
 present_one : (vectors : ℕ) (role : Use) (at : ℕ) (m : List ℕ) → allowed (row_of 0) role ≡ true
-    → present vectors role at (0x01 ∷ m) ≡ Present 1 0 (at + 1) (at + 1)
+    → present vectors role at (0x01 ∷ m) ≡ whole 1 0 (at + 1) (at + 1)
 unfolding present described
 present_one vectors role at m h =
     let none : at + 1 + vectors * 0 * width_of 1 ≡ at + 1 = rw (mul-zero vectors, zero-mul (width_of 1)) (omega arith) in
     rw (may_stand_wide role 1 0 (one_allowed role h) one_wide, none, le-leb (at + 1) (at + suc (length m)) (omega arith))
 
 -- the law: a value that is there is there with 01 for its 00, before whatever follows
-pub present_ones : (vectors : ℕ) (role : Use) (at : ℕ) (l m : List ℕ) (t n first stop : ℕ) → present vectors role at l ≡ Present t n first stop
-    → present vectors role at (one_for (take (stop - at) l) ++ m) ≡ Present (code_for t) n first stop
+pub present_ones : (vectors : ℕ) (role : Use) (at : ℕ) (l m : List ℕ) (t n first stop : ℕ) → present vectors role at l ≡ whole t n first stop
+    → present vectors role at (one_for (take (stop - at) l) ++ m) ≡ whole (code_for t) n first stop
 present_ones vectors role at l m t n first stop h = by_type (eqb t 0) refl
   where
-    bare : t ≡ 0 → present vectors role at (one_for (take (stop - at) l) ++ m) ≡ Present 1 n first stop
+    bare : t ≡ 0 → present vectors role at (one_for (take (stop - at) l) ++ m) ≡ whole 1 n first stop
     bare e =
         let b = present_zero vectors role at l n first stop (rw e at h) in
         let k = b.1 in
@@ -111,7 +109,7 @@ present_ones vectors role at l m t n first stop h = by_type (eqb t 0) refl
         let stop1 : stop ≡ at + 1 = omega arith in
         rw (one, b.0.zero, b.0.none, next, stop1) (present_one vectors role at m b.0.takes)
 
-    other : eqb t 0 ≡ false → present vectors role at (one_for (take (stop - at) l) ++ m) ≡ Present t n first stop
+    other : eqb t 0 ≡ false → present vectors role at (one_for (take (stop - at) l) ++ m) ≡ whole t n first stop
     other e =
         let i = present_typed vectors role at l t n first stop h in
         let a = i.ends in
@@ -130,7 +128,7 @@ present_ones vectors role at l m t n first stop h = by_type (eqb t 0) refl
           sym a,
         )
 
-    by_type : (b : Bool) → eqb t 0 ≡ b → present vectors role at (one_for (take (stop - at) l) ++ m) ≡ Present (pick b 1 t) n first stop
+    by_type : (b : Bool) → eqb t 0 ≡ b → present vectors role at (one_for (take (stop - at) l) ++ m) ≡ whole (pick b 1 t) n first stop
     by_type true e = bare (eqb-true t 0 e)
     by_type false e = other e
 
@@ -154,7 +152,7 @@ part_ones at first stop l m h k i =
     )
 
 -- its elements are shown by their own bytes
-pub elements_ones : (vectors : ℕ) (role : Use) (at : ℕ) (l m : List ℕ) (t n first stop : ℕ) → present vectors role at l ≡ Present t n first stop
+pub elements_ones : (vectors : ℕ) (role : Use) (at : ℕ) (l m : List ℕ) (t n first stop : ℕ) → present vectors role at l ≡ whole t n first stop
     → elements_of (code_for t) (stop - first) (drop (first - at) (one_for (take (stop - at) l) ++ m)) ≡ elements_of t (stop - first) (drop (first - at) l)
 elements_ones vectors role at l m t n first stop h = by_type (eqb t 0) refl
   where
@@ -174,9 +172,9 @@ judged_none : (most t : ℕ) → judged most t 0 [] ≡ Sound
 unfolding judged vectors_of
 judged_none most t = rw (zero-div (width_of t))
 
-pub soundly_ones : (vectors alleles : ℕ) (role : Use) (at : ℕ) (l m : List ℕ) (t n first stop : ℕ) → present vectors role at l ≡ Present t n first stop
-    → soundly alleles role at l (Present t n first stop) ≡ Present t n first stop
-    → soundly alleles role at (one_for (take (stop - at) l) ++ m) (Present (code_for t) n first stop) ≡ Present (code_for t) n first stop
+pub soundly_ones : (vectors alleles : ℕ) (role : Use) (at : ℕ) (l m : List ℕ) (t n first stop : ℕ) → present vectors role at l ≡ whole t n first stop
+    → soundly alleles role at l (whole t n first stop) ≡ whole t n first stop
+    → soundly alleles role at (one_for (take (stop - at) l) ++ m) (whole (code_for t) n first stop) ≡ whole (code_for t) n first stop
 soundly_ones vectors alleles role at l m t n first stop p h =
     let i = rw p at (present_inside vectors role at l) in
     let j = soundly_judged alleles role at l t n first stop h in
@@ -195,8 +193,8 @@ soundly_ones vectors alleles role at l m t n first stop p h =
     by_type j false e = j
 
 pub sound_ones : (vectors alleles : ℕ) (role : Use) (at : ℕ) (l m : List ℕ) (t n first stop : ℕ)
-    → sound vectors alleles role at l ≡ Present t n first stop
-    → sound vectors alleles role at (one_for (take (stop - at) l) ++ m) ≡ Present (code_for t) n first stop
+    → sound vectors alleles role at l ≡ whole t n first stop
+    → sound vectors alleles role at (one_for (take (stop - at) l) ++ m) ≡ whole (code_for t) n first stop
 unfolding sound
 sound_ones vectors alleles role at l m t n first stop h =
     let p = sound_there vectors alleles role at l t n first stop h in

@@ -1,18 +1,17 @@
 -- A record with 01 in place of each bare 00, the bytes that it gets where it is built again. No other byte moves, so every place stays.
 -- Rests on values, on the layout and on the kinds of fields in each block.
-use Rattle.std.specs.Prelude.{ℕ, ◌-◌, List, [], ◌∷◌, ◌++◌, Bool, true, eqb, take, drop, replicate}
+use Rattle.std.specs.Prelude.{ℕ, ◌-◌, List, [], ◌∷◌, ◌++◌, Bool, true, eqb, take, drop, replicate, Err, Ok}
 use Rattle.words.specs.Pick.{pick}
 use Rattle.types.specs.declared.Use.{Use}
 use Rattle.types.specs.declared.Use.TheVariants.{Id as IdUse, Allele as AlleleUse, Filter as FilterUse, Info as InfoUse, Format as FormatUse}
 use Rattle.values.specs.Values.{integer, present}
-use Rattle.values.specs.declared.Integer.{Integer}
-use Rattle.values.specs.declared.Integer.TheVariants.{One, Refused as NoInteger}
-use Rattle.values.specs.declared.Value.{Value}
-use Rattle.values.specs.declared.Value.TheVariants.{Present, Refused as NoValue}
 use Rattle.fixed.specs.Layout.{id_at}
 use Rattle.fixed.specs.declared.Site.{Site}
 use Rattle.fetch.specs.Account.{site_kinds}
 use Rattle.fetch.specs.declared.Kind.{Kind}
+use Rattle.values.specs.declared.Value.{Value}
+use Rattle.values.specs.declared.Integer.{Integer}
+use Rattle.values.specs.Answers.{Answer}
 use Rattle.fetch.specs.declared.Kind.TheVariants.{Id, Allele, Filter, Info, Format}
 
 -- what becomes of a block from a place on
@@ -33,17 +32,17 @@ abbrev pub same_or_one : ℕ → ℕ → Bool
 same_or_one x y = pick (eqb x 0) (pick (eqb y 0) true (eqb y 1)) (eqb y x)
 
 -- a value, for so many vectors of a use, and then what follows it; where there is none, the block stays
-abbrev pub past_value : Onward → ℕ → List ℕ → Value → List ℕ
-past_value rest at l (NoValue r) = l
-past_value rest at l (Present t n first stop) = one_for (take (stop - at) l) ++ rest stop (drop (stop - at) l)
+abbrev pub past_value : Onward → ℕ → List ℕ → Answer Value → List ℕ
+past_value rest at l (Err r) = l
+past_value rest at l (Ok v) = one_for (take (v.stop - at) l) ++ rest v.stop (drop (v.stop - at) l)
 
 unfoldable pub value_one : ℕ → Use → Onward → Onward
 value_one vectors role rest at l = past_value rest at l (present vectors role at l)
 
 -- a key as it is, then its value and what follows them
-abbrev pub past_key : Onward → ℕ → List ℕ → Integer → List ℕ
-past_key rest at l (NoInteger r) = l
-past_key rest at l (One key next) = take (next - at) l ++ rest next (drop (next - at) l)
+abbrev pub past_key : Onward → ℕ → List ℕ → Answer Integer → List ℕ
+past_key rest at l (Err r) = l
+past_key rest at l (Ok i) = take (i.next - at) l ++ rest i.next (drop (i.next - at) l)
 
 unfoldable pub pair_one : ℕ → Use → Onward → Onward
 pair_one vectors role rest at l = past_key (value_one vectors role rest) at l (integer at l)

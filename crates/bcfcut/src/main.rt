@@ -1,105 +1,99 @@
 // The cutting program: reads hexadecimal frames from standard input, a line each, and writes those of the release.
-// What is said of a line is cuts', where a line ends is lines', and how bytes come and go is pump's; this hands them on.
+// What is said of a line is cuts', and how an input is run over is runs'; this ties the one to the other.
 #![tactic(auto)]
 
-use cuts::{Stage, Stepped};
-use lines::Taken;
-use pump::{Piece, Wrote};
+ghost use Rattle.cuts.specs.Steps.{text_from};
+ghost use Rattle.cuts.specs.Printed.{printed};
+ghost use Rattle.runs.specs.Runs.{Ran};
 
-fn main(rt: HostRuntime) {
-    let mut input = rt.stdin();
-    let mut output = rt.stdout();
-    let mut errors = rt.stderr();
+use cuts::{BadLine, Stage};
+use runs::Program;
+use std::io::{Read, Write};
+
+// Where the input stands, the people of the choice, and the bytes of a record and of the one of the chosen people: any that a line holds have room.
+#[derive(Drop)]
+struct Cutting {
+    stage: Stage,
+    choice: [u32; 30000],
+    frame: [u8; 30000],
+    chosen: [u8; 30000],
+}
+
+impl Program for Cutting {
+    ghost says = { λ c. text_from c.choice c.stage };
+
+    const ROOM: usize = 60001;
+
+    fn step(&mut self, line: &[u8], out: &mut [u8], waiting: usize) -> Option<usize> {
+        let next = cuts::step(
+            self.stage,
+            line,
+            &mut self.choice,
+            &mut self.frame,
+            &mut self.chosen,
+            out,
+            waiting,
+        )?;
+        self.stage = next.stage;
+        Some(next.waiting)
+    }
+
+    fn finish(&mut self, out: &mut [u8], waiting: usize) -> Option<usize> {
+        let next = cuts::finish(self.stage, out, waiting)?;
+        self.stage = next.stage;
+        Some(next.waiting)
+    }
+
+    #[tactic(auto, using(crate::proofs::Says::ended_says))]
+    fn is_ended(&self) -> bool {
+        cuts::ended_by(self.stage).is_some()
+    }
+}
+
+// Tells which line was bad, where one was.
+fn tell_bad<E: Write>(stage: Stage, errors: &mut E) {
+    match cuts::ended_by(stage) {
+        Some(BadLine::First) => pump::say(
+            errors,
+            b"bcfcut: the first line has to be 32 hexadecimal digits: strings, contigs, people and GT offset, eight each",
+        ),
+        Some(BadLine::Second) => pump::say(
+            errors,
+            b"bcfcut: the second line has to be the people chosen, eight hexadecimal digits each, at most 30,000 of them",
+        ),
+        None => {}
+    }
+}
+
+// Cuts an input, and tells where its first or second line is bad. Says whether all of the release was written; where it was not, that is told.
+pub fn cut<R: Read, W: Write, E: Write>(input: &mut R, output: &mut W, errors: &mut E) -> bool
+    ensures { Ran printed (R.remaining input.old) (W.contents output.old) (W.contents output.new) result }
+{
     let mut piece = [0u8; 65536];
     // One character more than a choice's line may have, and so than any: a longer one is then known to be bad.
     let mut line = [0u8; 240001];
-    let mut choice = [0u32; 30000];
-    let mut frame = [0u8; 30000];
-    let mut chosen = [0u8; 30000];
     let mut out = [0u8; 131072];
-    let mut stage = Stage::First;
-    let mut end: usize = 0;
-    let mut at: usize = 0;
-    let mut held: usize = 0;
-    let mut waiting: usize = 0;
-    // A proved loop has to end, and nothing says that the input does: it counts down from a number that no run uses up.
-    let mut turns = u64::MAX;
-    while 0 < turns {
-        turns -= 1;
-        if at == end {
-            let got = pump::next_piece(&mut input, &mut errors, &mut piece, held);
-            match got {
-                Piece::Bytes(n) => {
-                    end = n;
-                    at = 0;
-                    continue;
-                }
-                Piece::End => {
-                    turns = 0;
-                    continue;
-                }
-                Piece::Failed => return,
-            }
-        }
-        let t = lines::take(&mut line, held, &piece[..end], at);
-        let Taken::Line { len, next } = t else {
-            held = lines::count_of(t);
-            at = end;
-            continue;
-        };
-        let s = cuts::step(
-            stage,
-            &line[..len],
-            &mut choice,
-            &mut frame,
-            &mut chosen,
-            &mut out,
-            waiting,
-        );
-        let Stepped::Next {
-            stage: then,
-            waiting: n,
-        } = s
-        else {
-            pump::say_no_room(&mut errors);
-            return;
-        };
-        let w = pump::make_room(&mut output, &mut errors, &out, n, 60001);
-        let Wrote::Waiting(k) = w else {
-            return;
-        };
-        stage = then;
-        waiting = k;
-        held = 0;
-        at = next;
-        if 0 < cuts::ended_by(then) {
-            turns = 0;
-            continue;
-        }
-    }
-    let s = cuts::finish(stage, &mut out, waiting);
-    let Stepped::Next {
-        stage: last,
-        waiting: n,
-    } = s
-    else {
-        pump::say_no_room(&mut errors);
-        return;
+    let mut program = Cutting {
+        stage: Stage::First,
+        choice: [0u32; 30000],
+        frame: [0u8; 30000],
+        chosen: [0u8; 30000],
     };
-    if pump::write_waiting(&mut output, &mut errors, &out, n) {
-        let by = cuts::ended_by(last);
-        if by == 1 {
-            pump::say(
-                &mut errors,
-                b"bcfcut: the first line has to be 32 hexadecimal digits: strings, contigs, people and GT offset, eight each",
-            );
-            return;
-        }
-        if by == 2 {
-            pump::say(
-                &mut errors,
-                b"bcfcut: the second line has to be the people chosen, eight hexadecimal digits each, at most 30,000 of them",
-            );
-        }
+    let written = runs::run(
+        &mut program,
+        input,
+        output,
+        errors,
+        &mut piece,
+        &mut line,
+        &mut out,
+    );
+    if written {
+        tell_bad(program.stage, errors);
     }
+    written
+}
+
+fn main(rt: HostRuntime) {
+    cut(&mut rt.stdin(), &mut rt.stdout(), &mut rt.stderr());
 }

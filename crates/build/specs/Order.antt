@@ -1,5 +1,6 @@
 -- Turns: their order, and what a turn answers and writes. Rests on build_append for the number of what is wrong and for the buffer afterwards.
-use Rattle.std.specs.Prelude.{ℕ, List, eqb, length}
+use Rattle.build.specs.Answers.{Taken}
+use Rattle.std.specs.Prelude.{ℕ, List, eqb, length, Err}
 use Rattle.words.specs.Pick.{pick}
 use Rattle.values.specs.Answers.{refusal}
 use Rattle.build_append.specs.Append.{written_to}
@@ -9,7 +10,6 @@ unfoldable pub use Rattle.build_append.specs.Append.{first_of, room_number}
 use Rattle.build.specs.declared.Stage.{Stage}
 use Rattle.build.specs.declared.Stage.TheVariants.{Fresh, Begun, Named, Alleles, Filtered, Infos, Formats, Ended}
 use Rattle.build.specs.declared.Builder.{Builder}
-use Rattle.build.specs.declared.Answer.TheVariants.{Taken, Refused}
 use Rattle.build.specs.declared.Turned.{Turned}
 
 -- how far a build is: the last turn taken, counted in the order begin, ID, allele, FILTER, INFO, FORMAT, end
@@ -30,7 +30,7 @@ order low high stage = ordered low high (rank stage)
 -- a turn's answer: with number 0 it is taken and gives the next state; a refused one keeps the state. Places are 0
 unfoldable pub turned : Builder → ℕ → Builder → Turned
 turned st number next =
-    pick (eqb number 0) (record { state = next; answer = Taken }) (record { state = st; answer = Refused (refusal number 0) })
+    pick (eqb number 0) (record { state = next; answer = Taken }) (record { state = st; answer = Err (refusal number 0) })
 
 -- a turn that appends: the rules' number first, then the room's; its answer, and the buffer afterwards
 unfoldable pub appended : Builder → ℕ → ℕ → List ℕ → Builder → Turned

@@ -1,5 +1,5 @@
 -- A value stored, descriptor first and then its elements. Rests on encode's bytes and on stores.
-use mathlib.Core.Path.{◌≡◌, ◌∙◌, ap, sym}
+use mathlib.Core.Path.{◌≡◌}
 use mathlib.Core.List.{List, [], ◌∷◌}
 use Prim.Native.Nat.{ℕ, suc, ◌+◌, ◌≤◌}
 use native.Mathlib.Omega.{arith}
@@ -24,9 +24,6 @@ slice_bytes : (xs : List ℕ) → ((i : ℕ) → Fits w8 (get_or xs i 0)) → By
 slice_bytes [] h = tt
 slice_bytes (x ∷ xs) h = let q = (h 0).fits in (omega arith, slice_bytes xs (λ i. h (suc i)))
 
--- text is stored as it is
-pub text_stored : (buf : List ℕ) (at n : ℕ) (xs : List ℕ) → ((i : ℕ) → Fits w8 (get_or xs i 0)) → at + length (value_bytes 7 n xs) ≤ length buf
-    → filled (filled buf at (descriptor_bytes 7 n)) (at + length (descriptor_bytes 0 n)) xs ≡ sets buf at (value_bytes 7 n xs)
-text_stored buf at n xs k h =
-    let e : elements_bytes 7 xs ≡ xs = text_elements xs (slice_bytes xs k) in
-    ap (filled (filled buf at (descriptor_bytes 7 n)) (at + length (descriptor_bytes 0 n))) (sym e) ∙ value_stored buf at 7 n xs h
+-- text is written as it is
+pub text_as_is : (xs : List ℕ) → ((i : ℕ) → Fits w8 (get_or xs i 0)) → elements_bytes 7 xs ≡ xs
+text_as_is xs k = text_elements xs (slice_bytes xs k)

@@ -2,19 +2,20 @@
 // against it. Rests on encode for what is written and on stores.
 #![tactic(auto)]
 
-ghost use Rattle.std.specs.Prelude.{map, ◌≡◌, ◌+◌, ◌*◌, ◌^◌, ◌<◌, ◌≤◌, length};
+ghost use Rattle.std.specs.Prelude.{map, ◌≡◌, ◌+◌, ◌*◌, ◌^◌, ◌<◌, ◌≤◌, ℕ, length};
 ghost use Rattle.std.proofs.lemmas.List.Edits.{sets};
 ghost use Rattle.std.specs.Int.{w32};
 ghost use Rattle.std.proofs.Common.{of_z};
 ghost use Rattle.stores.specs.Stores.{filled};
-ghost use Rattle.encode.specs.Encode.{descriptor_bytes, value_bytes};
-ghost use Rattle.shown.specs.Shown.{integers, floats, text};
-ghost use Rattle.shown.specs.Values.{given_bytes};
+ghost use Rattle.types.specs.Rows.{width_of};
+ghost use Rattle.encode.specs.Encode.{elements_bytes, value_bytes};
+ghost use Rattle.shown.specs.Shown.{Kind, integers, floats, text};
+ghost use Rattle.shown.specs.Values.{written_as};
 ghost use Rattle.build_append.specs.Append.{first_of, room_number, head_bytes, vector_length, field_bytes, written, written_to};
 
 // What a value is written as: alone (ID, an allele, FILTER), with an INFO field's key, or with a FORMAT field's key and the length of each
 // person's vector.
-#[derive(Clone, Copy)]
+#[derive(Clone, Copy, Debug, PartialEq, Eq)]
 pub enum Field {
     Alone,
     Info(u32),
@@ -22,13 +23,14 @@ pub enum Field {
 }
 
 // What became of bytes to be appended: the number of what is wrong, 0 where they were written, and how many they are.
-#[derive(Clone, Copy)]
+#[derive(Clone, Copy, Debug, PartialEq, Eq)]
 pub struct Written {
     pub number: u32,
     pub size: usize,
 }
 
 // The first of two numbers of refusals that is not 0.
+#[tactic(auto, unfolding(crate::specs::Append::first_of))]
 pub fn first_of(a: u32, b: u32) -> u32
     ensures { result ≡ first_of a b }
 {
@@ -39,13 +41,11 @@ pub fn first_of(a: u32, b: u32) -> u32
 }
 
 // 2 for a record over the most bytes, then 13 for a buffer too short.
+#[tactic(auto, unfolding(crate::specs::Append::room_number))]
 fn room_number(at: u32, size: usize, room: usize) -> u32
     ensures { result ≡ room_number at size room }
 {
-    if fixed::MOST < size {
-        return 2;
-    }
-    let stop = at as usize + size;
+    let stop = size.saturating_add(at as usize);
     if fixed::MOST < stop {
         return 2;
     }
@@ -55,47 +55,6 @@ fn room_number(at: u32, size: usize, room: usize) -> u32
     0
 }
 
-// The bytes of a value of so many elements, each so wide, with the length of each vector.
-fn value_size(len: usize, count: usize, width: usize) -> usize
-    requires { count * width < 2 ^ 63 }
-    ensures value { result ≡ length (descriptor_bytes 0 len) + count * width }
-    ensures upper_bound { result ≤ 6 + count * width }
-{
-    encode::descriptor_size(len) + count * width
-}
-
-// Stores text as a value, with the length of each vector.
-fn put_text(buf: &mut [u8], at: usize, len: u32, part: &[u8])
-    requires { at + length (given_bytes text len part.now) ≤ length buf.old }
-    ensures { buf.new ≡ sets buf.old at (given_bytes text len part.now) }
-{
-    encode::put_descriptor(buf, at, 7, len);
-    stores::put(buf, at + encode::descriptor_size(len as usize), part);
-}
-
-// Stores integers as a value, with the length of each vector and their type.
-fn put_integers(buf: &mut [u8], at: usize, len: u32, code: u8, values: &[i32])
-    requires { at + length (value_bytes code len (map (of_z w32) values.now)) ≤ length buf.old }
-    ensures { buf.new ≡ sets buf.old at (value_bytes code len (map (of_z w32) values.now)) }
-{
-    encode::put_descriptor(buf, at, code, len);
-    encode::put_integers(
-        buf,
-        at + encode::descriptor_size(len as usize),
-        code,
-        values,
-    );
-}
-
-// Stores floats, given by their bits, as a value, with the length of each vector.
-fn put_floats(buf: &mut [u8], at: usize, len: u32, bits: &[u32])
-    requires { at + length (value_bytes 5 len bits.now) ≤ length buf.old }
-    ensures { buf.new ≡ sets buf.old at (value_bytes 5 len bits.now) }
-{
-    encode::put_descriptor(buf, at, 5, len);
-    encode::put_floats(buf, at + encode::descriptor_size(len as usize), bits);
-}
-
 // How many bytes stand before a value.
 fn head_size(field: Field) -> usize
     ensures value { result ≡ length (head_bytes field) }
@@ -103,8 +62,7 @@ fn head_size(field: Field) -> usize
 {
     match field {
         Field::Alone => 0,
-        Field::Info(key) => encode::integer_size(key as usize),
-        Field::Format(key, _) => encode::integer_size(key as usize),
+        Field::Info(key) | Field::Format(key, _) => encode::integer_size(key as usize),
     }
 }
 
@@ -114,8 +72,7 @@ fn vector_length(field: Field, count: usize) -> usize
     ensures upper_bound { count < 2 ^ 32 → result < 2 ^ 32 }
 {
     match field {
-        Field::Alone => count,
-        Field::Info(_) => count,
+        Field::Alone | Field::Info(_) => count,
         Field::Format(_, len) => len as usize,
     }
 }
@@ -126,56 +83,123 @@ fn put_head(buf: &mut [u8], at: usize, field: Field)
 {
     match field {
         Field::Alone => {}
-        Field::Info(key) => {
-            encode::put_integer(buf, at, key);
-        }
-        Field::Format(key, _) => {
+        Field::Info(key) | Field::Format(key, _) => {
             encode::put_integer(buf, at, key);
         }
     }
 }
 
-// The rules' number, then the room's.
-fn append_number(rules: u32, at: u32, size: usize, room: usize) -> u32
-    ensures { result ≡ first_of rules (room_number at size room) }
+// An element as a builder gives it: a byte of text, an integer, or a float by its bits. Of a value's elements this says in which type they
+// are written, and how.
+trait Element: Copy {
+    ghost kind: { Kind };
+
+    ghost shown: { Self → ℕ };
+
+    // The type in which elements are written.
+    fn code(values: &[Self]) -> u8
+        ensures { result ≡ written_as kind (map shown values.now) };
+
+    // Stores elements in that type, where they have room.
+    fn put(buf: &mut [u8], at: usize, code: u8, values: &[Self])
+        requires { code ≡ written_as kind (map shown values.now) }
+        ensures { buf.new ≡ filled buf.old at (elements_bytes code (map shown values.now)) };
+}
+
+impl Element for u8 {
+    ghost kind = { text };
+
+    ghost shown = { λ x. x };
+
+    fn code(_values: &[u8]) -> u8 {
+        7
+    }
+
+    fn put(buf: &mut [u8], at: usize, _code: u8, values: &[u8]) {
+        stores::put(buf, at, values);
+    }
+}
+
+impl Element for i32 {
+    ghost kind = { integers };
+
+    ghost shown = { of_z w32 };
+
+    fn code(values: &[i32]) -> u8 {
+        encode::widest_type(values)
+    }
+
+    fn put(buf: &mut [u8], at: usize, code: u8, values: &[i32]) {
+        encode::put_integers(buf, at, code, values);
+    }
+}
+
+impl Element for u32 {
+    ghost kind = { floats };
+
+    ghost shown = { λ x. x };
+
+    fn code(_values: &[u32]) -> u8 {
+        5
+    }
+
+    fn put(buf: &mut [u8], at: usize, _code: u8, values: &[u32]) {
+        encode::put_floats(buf, at, values);
+    }
+}
+
+// Stores elements as a value, with the length of each vector and their type.
+fn put_value<T: Element>(buf: &mut [u8], at: usize, len: u32, code: u8, values: &[T])
+    requires kind { code ≡ written_as T.kind (map T.shown values.now) }
+    requires room { at + length (value_bytes code len (map T.shown values.now)) ≤ length buf.old }
+    ensures { buf.new ≡ sets buf.old at (value_bytes code len (map T.shown values.now)) }
 {
-    first_of(rules, room_number(at, size, room))
+    encode::put_descriptor(buf, at, code, len);
+    T::put(
+        buf,
+        at + encode::descriptor_size(len as usize),
+        code,
+        values,
+    );
+}
+
+// Appends elements of a kind as a value.
+fn append<T: Element>(buf: &mut [u8], at: u32, rules: u32, field: Field, values: &[T]) -> Written
+    requires { length values.now * width_of (written_as T.kind (map T.shown values.now)) < 2 ^ 63 }
+    ensures told { result ≡ written at (length buf.old) rules (field_bytes field T.kind (map T.shown values.now)) }
+    ensures written { buf.new ≡ written_to buf.old at rules (field_bytes field T.kind (map T.shown values.now)) }
+{
+    let len = vector_length(field, values.len());
+    let code = T::code(values);
+    let row = types::row_of(code);
+    let first = head_size(field);
+    let size = first + encode::descriptor_size(len) + values.len() * usize::from(row.width);
+    let number = first_of(rules, room_number(at, size, buf.len()));
+    if number == 0 {
+        put_head(buf, at as usize, field);
+        put_value(buf, at as usize + first, len as u32, code, values);
+    }
+    Written { number, size }
 }
 
 // Appends text, unless the rules or the room are against it: the number, the rules' or else 2 or 13, and the size. With a number nothing is
 // written.
+#[tactic(auto, unfolding(types::specs::Rows::width_of, types::specs::Rows::row_of))]
 pub fn append_text(buf: &mut [u8], at: u32, rules: u32, field: Field, part: &[u8]) -> Written
     ensures told { result ≡ written at (length buf.old) rules (field_bytes field text part.now) }
     ensures written { buf.new ≡ written_to buf.old at rules (field_bytes field text part.now) }
 {
-    let len = vector_length(field, part.len());
-    let first = head_size(field);
-    let size = first + value_size(len, part.len(), 1);
-    let number = append_number(rules, at, size, buf.len());
-    if number == 0 {
-        put_head(buf, at as usize, field);
-        put_text(buf, at as usize + first, len as u32, part);
-        return Written { number, size };
-    }
-    Written { number, size }
+    append(buf, at, rules, field, part)
 }
 
 // Appends floats, given by their bits, unless the rules or the room are against it: the number, the rules' or else 2 or 13, and the size. With a
 // number nothing is written.
+#[tactic(auto, unfolding(types::specs::Rows::width_of, types::specs::Rows::row_of))]
 pub fn append_floats(buf: &mut [u8], at: u32, rules: u32, field: Field, bits: &[u32]) -> Written
     ensures told { result ≡ written at (length buf.old) rules (field_bytes field floats bits.now) }
     ensures written { buf.new ≡ written_to buf.old at rules (field_bytes field floats bits.now) }
 {
-    let len = vector_length(field, bits.len());
-    let first = head_size(field);
-    let size = first + value_size(len, bits.len(), 4);
-    let number = append_number(rules, at, size, buf.len());
-    if number == 0 {
-        put_head(buf, at as usize, field);
-        put_floats(buf, at as usize + first, len as u32, bits);
-        return Written { number, size };
-    }
-    Written { number, size }
+    append(buf, at, rules, field, bits)
 }
 
 // Appends integers in the narrowest type for all, unless the rules or the room are against it: the number, the rules' or else 2 or 13, and the
@@ -184,16 +208,5 @@ pub fn append_integers(buf: &mut [u8], at: u32, rules: u32, field: Field, values
     ensures told { result ≡ written at (length buf.old) rules (field_bytes field integers (map (of_z w32) values.now)) }
     ensures written { buf.new ≡ written_to buf.old at rules (field_bytes field integers (map (of_z w32) values.now)) }
 {
-    let len = vector_length(field, values.len());
-    let code = encode::widest_type(values);
-    let row = types::row_of(code);
-    let first = head_size(field);
-    let size = first + value_size(len, values.len(), row.width as usize);
-    let number = append_number(rules, at, size, buf.len());
-    if number == 0 {
-        put_head(buf, at as usize, field);
-        put_integers(buf, at as usize + first, len as u32, code, values);
-        return Written { number, size };
-    }
-    Written { number, size }
+    append(buf, at, rules, field, values)
 }

@@ -10,8 +10,7 @@ use lib.ListN.{length, take, length-map}
 use mir.Syntax.{w32}
 use mir.Val.{of_z}
 use Rattle.words.specs.Pick.{pick}
-use Rattle.vectors.specs.Vectors.{unsound}
-use Rattle.vectors.specs.declared.Judged.TheVariants.{Sound}
+use Rattle.vectors.specs.Vectors.{unsound, Sound}
 use Rattle.repeats.specs.Repeats.{first_outside, repeat_after, first_repeat}
 use Rattle.repeats.proofs.Lists.{map_part}
 use Rattle.site.proofs.Filters.{verdict, filters_verdict}

@@ -1,23 +1,17 @@
--- Elements that pass, every one: a sweep over them, and that nothing is wrong with vectors of nothing else. Rests on vectors' rule for
--- elements that pass.
-use mathlib.Core.Path.{◌≡◌, refl, sym}
+-- Elements that pass, every one: nothing is wrong with vectors of nothing else. Rests on vectors' rule for elements that pass.
+use mathlib.Core.Path.{◌≡◌, refl}
 use mathlib.Core.List.{List, [], ◌∷◌, map}
-use mathlib.Core.Bool.{Bool, true, false, ◌&&◌}
-use Prim.Native.Nat.{ℕ, zero, suc, ◌+◌, ◌/◌, ◌<◌, ◌≤◌}
+use mathlib.Core.Bool.{Bool, true, false}
+use Prim.Native.Nat.{ℕ, zero, suc, ◌/◌, ◌<◌}
 use native.Mathlib.Omega.{arith}
-use native.Mathlib.Numerals.{add-one}
 use lib.Dec.{ltb}
-use lib.IntN.{ℤ, pos}
-use lib.ListN.{length, get_or, take, drop, drop_of_length-le, length-map}
-use lib.Seq.{drop-cons}
-use mir.Syntax.{w32}
-use mir.Val.{of_z}
+use lib.ListN.{length, take, drop}
 use borrow.Author.Tests.{lt-ltb, eq-eqb}
+use Rattle.std.proofs.lemmas.List.{map-id}
 use Rattle.words.specs.Pick.{pick}
-use Rattle.words.proofs.Sign.{bits_at}
 use Rattle.vectors.specs.Engine.{passed, all_passed, AllOn}
-use Rattle.vectors.specs.declared.Judged.TheVariants.{Sound}
-use Rattle.vectors.proofs.Plain.{and_pick, all_on, on_3, on_5, vector_on}
+use Rattle.vectors.proofs.Plain.{all_on, on_3, on_5, vector_on}
+use Rattle.vectors.specs.Vectors.{Sound}
 use Rattle.build_given.specs.Given.{vectors_given, elements_number}
 
 -- the missing mark passes, whatever the most is
@@ -28,26 +22,6 @@ missing_passes low high missing most x h e = rw (eq-eqb x missing e, lt-ltb x lo
     by_most : (b : Bool) → true ≡ pick b true true
     by_most true = refl
     by_most false = refl
-
--- one element more, where some are left and where none is
-pub sweep_turn : (xs : List ℕ) (low high missing most i : ℕ) (b : Bool) → i < length xs
-    → b && all_passed low high missing most (drop i xs)
-    ≡ (b && passed low high missing most (get_or xs i 0)) && all_passed low high missing most (drop (i + 1) xs)
-unfolding all_passed
-sweep_turn xs low high missing most i true h = rw (drop-cons xs i 0 h, add-one i) (sym (and_pick (passed low high missing most (get_or xs i 0)) (all_passed low high missing most (drop (suc i) xs))))
-sweep_turn xs low high missing most i false h = refl
-
-pub sweep_turn_bits : (zs : List ℤ) (low high missing most i : ℕ) (b : Bool) → i < length zs
-    → b && all_passed low high missing most (drop i (map (of_z w32) zs))
-    ≡ (b && passed low high missing most (of_z w32 (get_or zs i (pos 0)))) && all_passed low high missing most (drop (i + 1) (map (of_z w32) zs))
-sweep_turn_bits zs low high missing most i b h =
-    rw (← bits_at zs i) (sweep_turn (map (of_z w32) zs) low high missing most i b (rw length-map h))
-
-pub sweep_end : (xs : List ℕ) (low high missing most i : ℕ) (b : Bool) → length xs ≤ i
-    → b && all_passed low high missing most (drop i xs) ≡ b
-unfolding all_passed
-sweep_end xs low high missing most i true h = rw (drop_of_length-le xs {i = i} h)
-sweep_end xs low high missing most i false h = refl
 
 -- elements that all go on: the first of them, and the others
 on_take : (most t n : ℕ) (xs : List ℕ) → AllOn most t xs → AllOn most t (take n xs)
@@ -74,5 +48,6 @@ elements_on most t len xs h = rw (vectors_on most t len (length xs / len) xs h)
 pub integers_on : (most len : ℕ) (xs : List ℕ) → all_passed 0x80000001 0x80000007 0x80000000 most xs ≡ true → elements_number most 3 len xs ≡ 0
 integers_on most len xs e = elements_on most 3 len xs (all_on 3 _ _ _ most (on_3 most) xs e)
 
-pub floats_on : (most len : ℕ) (xs : List ℕ) → all_passed 0x7F800002 0x7F800007 0x7F800001 most xs ≡ true → elements_number most 5 len xs ≡ 0
-floats_on most len xs e = elements_on most 5 len xs (all_on 5 _ _ _ most (on_5 most) xs e)
+-- floats are their bits
+pub floats_on : (most len : ℕ) (xs : List ℕ) → all_passed 0x7F800002 0x7F800007 0x7F800001 most (map (λ x. x) xs) ≡ true → elements_number most 5 len xs ≡ 0
+floats_on most len xs e = elements_on most 5 len xs (all_on 5 _ _ _ most (on_5 most) xs (rw map-id at e))

@@ -10,31 +10,28 @@ use lib.ListN.{length, take, drop, length-drop}
 use Rattle.words.specs.Words.{number, le}
 use Rattle.types.specs.Rows.{row_of, width_of}
 use Rattle.types.specs.Elements.{kind}
-use Rattle.values.specs.Answers.{refusal}
-use Rattle.vectors.specs.Vectors.{numbers, element_turn, follow, vector, vectors, and_then, judged}
-use Rattle.vectors.specs.declared.Judged.{Judged}
-use Rattle.vectors.specs.declared.Judged.TheVariants.{Sound, Refused as Unsound}
-use Rattle.vectors.specs.declared.Turn.{Turn}
-use Rattle.vectors.specs.declared.Turn.TheVariants.{Bad, On}
+use Rattle.values.specs.Answers.{refusal, Answer}
+use Rattle.vectors.specs.Vectors.{numbers, element_turn, follow, vector, vectors, and_then, judged, Sound}
+use Rattle.std.specs.Prelude.{Err, Result, Ok}
 use Rattle.build_given.specs.Given.{number_of, vectors_given, elements_number}
 
 -- a judgement without its place
-abbrev placeless : Judged → Judged
+abbrev placeless : Answer (Unit {0}) → Answer (Unit {0})
 placeless Sound = Sound
-placeless (Unsound r) = Unsound (refusal r.number 0)
+placeless (Err r) = Err (refusal r.number 0)
 
-number_placeless : (j : Judged) → number_of (placeless j) ≡ number_of j
+number_placeless : (j : Answer (Unit {0})) → number_of (placeless j) ≡ number_of j
 number_placeless Sound = refl
-number_placeless (Unsound r) = refl
+number_placeless (Err r) = refl
 
-placeless_then : (a b : Judged) → placeless (and_then a b) ≡ and_then (placeless a) (placeless b)
+placeless_then : (a b : Answer (Unit {0})) → placeless (and_then a b) ≡ and_then (placeless a) (placeless b)
 placeless_then Sound b = refl
-placeless_then (Unsound r) b = refl
+placeless_then (Err r) b = refl
 
-placeless_follow : (at : ℕ) (u : Turn) (f g : Bool → Judged) → ((e : Bool) → placeless (f e) ≡ g e)
+placeless_follow : (at : ℕ) (u : Result Bool ℕ) (f g : Bool → Answer (Unit {0})) → ((e : Bool) → placeless (f e) ≡ g e)
     → placeless (follow at u f) ≡ follow 0 u g
-placeless_follow at (Bad n) f g h = refl
-placeless_follow at (On e) f g h = h e
+placeless_follow at (Err n) f g h = refl
+placeless_follow at (Ok e) f g h = h e
 
 placeless_vector : (most t w at : ℕ) (e : Bool) (xs : List ℕ) → placeless (vector most t w at e xs) ≡ vector most t 0 0 e xs
 unfolding vector

@@ -1,49 +1,47 @@
 -- One turn of each loop: of a vector's elements, and of vectors. Rests on specs/Given and on vectors' rule for one vector.
-use mathlib.Core.Path.{◌≡◌, refl}
-use mathlib.Core.List.{List, [], ◌∷◌, map}
-use mathlib.Core.Bool.{Bool, false}
-use Prim.Native.Nat.{ℕ, zero, suc, ◌+◌, ◌-◌, ◌<◌, ◌≤◌}
-use native.Mathlib.Omega.{arith}
-use native.Mathlib.Numerals.{add-one, sub-one}
-use lib.IntN.{ℤ, pos}
-use lib.ListN.{length, get_or, take, drop, drop_of_length-le, length-map}
-use lib.Seq.{drop-cons, drop-drop}
-use mir.Syntax.{w32}
-use mir.Val.{of_z}
-use Rattle.words.proofs.Sign.{bits_at}
-use Rattle.types.specs.Elements.{kind}
-use Rattle.vectors.specs.Vectors.{element_turn, follow, vector, and_then}
-use Rattle.vectors.specs.declared.Judged.TheVariants.{Sound}
-use Rattle.build_given.specs.Given.{vectors_given}
+use Rattle.std.proofs.Common.{◌≡◌, refl, ap, ◌∙◌, ℕ, suc, ◌+◌, ◌/◌, ◌<◌, ◌≤◌, List, [], ◌∷◌, ◌++◌, map, false, length, get_or, take, drop, arith, add-one, length-append}
+use Rattle.std.proofs.Math.Nat.{mul-add-div_right, div-eq_of_lt, div-zero}
+use Rattle.std.proofs.Math.ListN.{drop_of_length-le}
+use Rattle.std.proofs.Math.Seq.{drop-cons, take-append_seam, drop-append_seam}
+use Rattle.std.proofs.lemmas.List.{length-map, map-append}
+use Rattle.vectors.specs.Vectors.{vector, and_then, Sound}
+use Rattle.std.specs.Prelude.{Err}
+use Rattle.values.specs.Answers.{Answer}
+use Rattle.build_given.specs.Given.{number_of, vectors_given, elements_number}
 
--- an element, where some are left
-pub vector_turn : (xs : List ℕ) (most t : ℕ) (e : Bool) (i : ℕ) → i < length xs
-    → vector most t 0 0 e (drop i xs)
-    ≡ follow 0 (element_turn most e (kind t (get_or xs i 0)) (get_or xs i 0)) (λ b. vector most t 0 0 b (drop (i + 1) xs))
-unfolding vector
-vector_turn xs most t e i h = rw (drop-cons xs i 0 h, add-one i)
+-- the numbers of what is left, where an element is, and where none is
+pub map_turn : {A : Type 0} (f : A → ℕ) (xs : List A) (i : ℕ) (x : A) → i < length xs → x ≡ get_or xs i x → map f (drop i xs) ≡ f x ∷ map f (drop (i + 1) xs)
+map_turn f xs i x h e = rw (drop-cons xs i x h, ← e, add-one) refl
 
-pub vector_turn_bits : (zs : List ℤ) (most t : ℕ) (e : Bool) (i : ℕ) → i < length zs
-    → vector most t 0 0 e (drop i (map (of_z w32) zs))
-    ≡ follow 0 (element_turn most e (kind t (of_z w32 (get_or zs i (pos 0)))) (of_z w32 (get_or zs i (pos 0))))
-    (λ b. vector most t 0 0 b (drop (i + 1) (map (of_z w32) zs)))
-vector_turn_bits zs most t e i h = rw (← bits_at zs i) (vector_turn (map (of_z w32) zs) most t e i (rw length-map h))
+pub map_end : {A : Type 0} (f : A → ℕ) (xs : List A) (i : ℕ) → length xs ≤ i → map f (drop i xs) ≡ []
+map_end f xs i h = rw (drop_of_length-le xs {i = i} h) refl
 
--- and where none is
-pub vector_end : (xs : List ℕ) (most t : ℕ) (e : Bool) (i : ℕ) → length xs ≤ i → vector most t 0 0 e (drop i xs) ≡ Sound
-unfolding vector
-vector_end xs most t e i h = rw (drop_of_length-le xs {i = i} h)
+-- the number of what is wrong first
+abbrev pub or_else : Answer (Unit {0}) → ℕ → ℕ
+or_else Sound n = n
+or_else (Err r) n = r.number
 
--- a vector, where some are left
-pub vectors_turn : (xs : List ℕ) (most t len n at : ℕ) → 0 < n
-    → vectors_given most t len n (drop at xs)
-    ≡ and_then (vector most t 0 0 false (take len (drop at xs))) (vectors_given most t len (n - 1) (drop (at + len) xs))
-unfolding vectors_given
-vectors_turn xs most t len zero at h = absurd (omega arith)
-vectors_turn xs most t len (suc n) at h = rw (sub-one, drop-drop len at xs)
+number_or : (a b : Answer (Unit {0})) → number_of (and_then a b) ≡ or_else a (number_of b)
+number_or Sound b = refl
+number_or (Err r) b = refl
 
--- the bits of what is left are what is left of the bits
-pub map_rest {ℓ} : {A : Type ℓ} (f : A → ℕ) (xs : List A) (n : ℕ) → map f (drop n xs) ≡ drop n (map f xs)
-map_rest f xs zero = refl
-map_rest f [] (suc n) = refl
-map_rest f (x ∷ xs) (suc n) = map_rest f xs n
+-- a vector, and the others
+pub elements_chunk : {A : Type 0} (f : A → ℕ) (most t len : ℕ) (all x rest : List A) → 0 < len → all ≡ x ++ rest → length x ≡ len
+    → elements_number most t len (map f all) ≡ or_else (vector most t 0 0 false (map f x)) (elements_number most t len (map f rest))
+unfolding elements_number vectors_given
+elements_chunk f most t len all x rest p e l =
+    let m : length (map f x) ≡ len = length-map x f ∙ l in
+    let n : length (map f all) / len ≡ suc (length (map f rest) / len) =
+    rw (e, map-append, length-append, m) (ap (λ k. k / len) (omega arith) ∙ mul-add-div_right p 1 (length (map f rest)) ∙ omega arith) in
+    let front : take len (map f x ++ map f rest) ≡ map f x = rw m at (take-append_seam {A = ℕ} (map f x) (map f rest)) in
+    let back : drop len (map f x ++ map f rest) ≡ map f rest = rw m at (drop-append_seam {A = ℕ} (map f x) (map f rest)) in
+    rw (n, e, map-append, front, back) (number_or (vector most t 0 0 false (map f x)) (vectors_given most t len (length (map f rest) / len) (map f rest)))
+
+-- less than a vector, or vectors of no elements
+pub elements_none : {A : Type 0} (f : A → ℕ) (most t len : ℕ) (xs : List A) → length xs < len → elements_number most t len (map f xs) ≡ 0
+unfolding elements_number vectors_given
+elements_none f most t len xs h = rw (length-map, div-eq_of_lt h) refl
+
+pub elements_empty : (most t len : ℕ) (xs : List ℕ) → len ≡ 0 → elements_number most t len xs ≡ 0
+unfolding elements_number vectors_given
+elements_empty most t len xs h = rw (h, div-zero) refl

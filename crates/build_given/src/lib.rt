@@ -2,161 +2,160 @@
 // Rests on vectors and site for the rules, and on repeats for FILTER's.
 #![tactic(auto)]
 
-ghost use Rattle.std.specs.Prelude.{◌≡◌, false, map, ◌<◌};
+ghost use Rattle.std.specs.Prelude.{◌≡◌, ℕ, false, map, ◌<◌};
 ghost use Rattle.std.specs.Int.{w32};
 ghost use Rattle.std.proofs.Common.{of_z};
 ghost use Rattle.vectors.specs.Engine.{passed, all_passed};
 ghost use Rattle.vectors.specs.Vectors.{vector};
 ghost use Rattle.build_given.specs.Given.{number_of, elements_number, filters_number, allele_number};
 
-use vectors::{Judged, Turn};
+use values::Refusal;
 
 // The number of what is wrong.
-fn number_of(j: Judged) -> u32
-    ensures { result ≡ number_of j }
+fn number_of(judged: Result<(), Refusal>) -> u32
+    ensures { result ≡ number_of judged }
 {
-    match j {
-        Judged::Sound => 0,
-        Judged::Refused(r) => r.number,
+    match judged {
+        Ok(()) => 0,
+        Err(r) => r.number,
     }
 }
 
-// The integers of one vector.
-fn integers_in(part: &[i32], most: u32) -> Judged
-    ensures { result ≡ vector most 3 0 0 false (map (of_z w32) part.now) }
+// An element as a builder is given it, which stands for 32 bits.
+trait Given: Copy {
+    ghost bits: { Self → ℕ };
+
+    fn bits(self) -> u32
+        ensures { result ≡ bits self };
+}
+
+// An integer.
+impl Given for i32 {
+    ghost bits = { of_z w32 };
+
+    fn bits(self) -> u32 {
+        words::bits(self)
+    }
+}
+
+// A float, by its bits.
+impl Given for u32 {
+    ghost bits = { λ x. x };
+
+    fn bits(self) -> u32 {
+        self
+    }
+}
+
+// What goes on in a vector that has not ended: missing, or up to the most and outside the marks from `low` to `high`.
+#[derive(Drop)]
+struct Marks {
+    low: u32,
+    high: u32,
+    missing: u32,
+    most: u32,
+    ghost apart: { missing < low },
+}
+
+impl Marks {
+    // Whether an element goes on.
+    #[tactic(auto, using(crate::proofs::Plain::missing_passes), unfolding(vectors::specs::Engine::passed))]
+    fn pass(&self, x: u32) -> bool
+        ensures { result ≡ passed self.now.low self.now.high self.now.missing self.now.most x }
+    {
+        if x == self.missing {
+            return true;
+        }
+        if self.most < x {
+            return false;
+        }
+        if x < self.low {
+            return true;
+        }
+        self.high < x
+    }
+
+    // Whether elements go on, every one. The sweep does not leave early, so that it takes many at once.
+    #[tactic(auto, using(crate::proofs::Turns::map_turn, crate::proofs::Turns::map_end, vectors::proofs::Plain::and_pick), unfolding(vectors::specs::Engine::all_passed))]
+    fn all_pass<T: Given>(&self, values: &[T]) -> bool
+        ensures { result ≡ all_passed self.now.low self.now.high self.now.missing self.now.most (map T.bits values.now) }
+    {
+        let mut good = true;
+        for x in values {
+            good &= self.pass(x.bits());
+        }
+        good
+    }
+}
+
+// The elements of one vector.
+#[tactic(auto, using(crate::proofs::Turns::map_turn, crate::proofs::Turns::map_end), unfolding(vectors::specs::Vectors::vector))]
+fn vector_of<T: Given>(part: &[T], code: u8, most: u32) -> Result<(), Refusal>
+    ensures { result ≡ vector most code 0 0 false (map T.bits part.now) }
 {
     let mut ended = false;
-    let mut i = 0;
-    while i < part.len() {
-        let t = vectors::judge_one(3, most, ended, words::bits(part[i]));
-        let Turn::On(e) = t else {
-            return Judged::Refused(vectors::turn_refusal(t, 0));
+    for x in part {
+        ended = match vectors::judge_one(code, most, ended, x.bits()) {
+            Ok(now) => now,
+            Err(number) => return Err(Refusal { number, place: 0 }),
         };
-        ended = e;
-        i += 1;
     }
-    Judged::Sound
+    Ok(())
 }
 
-// Whether an element goes on in a vector that has not ended: missing, or up to the most and outside the marks from `low` to `high`.
-fn passes(low: u32, high: u32, missing: u32, most: u32, x: u32) -> bool
-    requires { missing < low }
-    ensures { result ≡ passed low high missing most x }
+// The number for elements, vector after vector and one element after the other.
+#[tactic(auto, using(crate::proofs::Turns::elements_chunk, crate::proofs::Turns::elements_none, crate::proofs::Turns::elements_empty))]
+fn in_turn<T: Given>(values: &[T], code: u8, len: usize, most: u32) -> u32
+    ensures { result ≡ elements_number most code len (map T.bits values.now) }
 {
-    if x == missing {
-        return true;
+    if len == 0 {
+        return 0;
     }
-    if most < x {
-        return false;
-    }
-    if x < low {
-        return true;
-    }
-    high < x
-}
-
-// Whether integers go on, every one. The sweep does not leave early, so that it takes many at once.
-fn integers_pass(values: &[i32], most: u32) -> bool
-    ensures { result ≡ all_passed 0x80000001 0x80000007 0x80000000 most (map (of_z w32) values.now) }
-{
-    let mut good = true;
-    let mut i = 0;
-    while i < values.len() {
-        let x = words::bits(values[i]);
-        good = good & passes(0x80000001, 0x80000007, 0x80000000, most, x);
-        i += 1;
-    }
-    good
-}
-
-// The number for integers, vector after vector and one element after the other.
-fn integers_in_turn(values: &[i32], len: usize, most: u32) -> u32
-    ensures { result ≡ elements_number most 3 len (map (of_z w32) values.now) }
-{
-    let mut left = words::over(values.len(), len);
-    let mut at = 0;
-    while 0 < left {
-        let stop = at + len;
-        let j = integers_in(&values[at..stop], most);
-        let Judged::Sound = j else {
-            return number_of(j);
-        };
-        at = stop;
-        left -= 1;
+    for part in values.chunks_exact(len) {
+        if let Err(r) = vector_of(part, code, most) {
+            return r.number;
+        }
     }
     0
 }
 
 // The number for integers that are vectors of `len` each: 9 or 10 for the first that reading would refuse, else 0. A plain one above `most` gives
 // 10.
+#[tactic(auto, using(crate::proofs::Plain::integers_on))]
 pub fn judge_integers(values: &[i32], len: usize, most: u32) -> u32
     ensures { result ≡ elements_number most 3 len (map (of_z w32) values.now) }
 {
-    if integers_pass(values, most) {
+    let marks = Marks {
+        low: 0x80000001,
+        high: 0x80000007,
+        missing: 0x80000000,
+        most,
+    };
+    if marks.all_pass(values) {
         return 0;
     }
-    integers_in_turn(values, len, most)
-}
-
-// The floats of one vector, given by their bits.
-fn floats_in(part: &[u32]) -> Judged
-    ensures { result ≡ vector 0xFFFFFFFF 5 0 0 false part.now }
-{
-    let mut ended = false;
-    let mut i = 0;
-    while i < part.len() {
-        let t = vectors::judge_one(5, 0xFFFFFFFF, ended, part[i]);
-        let Turn::On(e) = t else {
-            return Judged::Refused(vectors::turn_refusal(t, 0));
-        };
-        ended = e;
-        i += 1;
-    }
-    Judged::Sound
-}
-
-// Whether floats go on, every one.
-fn floats_pass(bits: &[u32]) -> bool
-    ensures { result ≡ all_passed 0x7F800002 0x7F800007 0x7F800001 0xFFFFFFFF bits.now }
-{
-    let mut good = true;
-    let mut i = 0;
-    while i < bits.len() {
-        good = good & passes(0x7F800002, 0x7F800007, 0x7F800001, 0xFFFFFFFF, bits[i]);
-        i += 1;
-    }
-    good
-}
-
-// The number for floats, vector after vector and one element after the other.
-fn floats_in_turn(bits: &[u32], len: usize) -> u32
-    ensures { result ≡ elements_number 0xFFFFFFFF 5 len bits.now }
-{
-    let mut left = words::over(bits.len(), len);
-    let mut at = 0;
-    while 0 < left {
-        let stop = at + len;
-        let j = floats_in(&bits[at..stop]);
-        let Judged::Sound = j else {
-            return number_of(j);
-        };
-        at = stop;
-        left -= 1;
-    }
-    0
+    in_turn(values, 3, len, most)
 }
 
 // The number for floats, given by their bits, that are vectors of `len` each: 9 where reading would refuse one, else 0.
+#[tactic(auto, using(crate::proofs::Plain::floats_on))]
 pub fn judge_floats(bits: &[u32], len: usize) -> u32
     ensures { result ≡ elements_number 0xFFFFFFFF 5 len bits.now }
 {
-    if floats_pass(bits) {
+    let marks = Marks {
+        low: 0x7F800002,
+        high: 0x7F800007,
+        missing: 0x7F800001,
+        most: 0xFFFFFFFF,
+    };
+    if marks.all_pass(bits) {
         return 0;
     }
-    floats_in_turn(bits, len)
+    in_turn(bits, 5, len, 0xFFFFFFFF)
 }
 
 // The number for text that is vectors of `len` bytes each: 9 where reading would refuse a byte, else 0.
+#[tactic(auto, using(crate::proofs::Text::text_number))]
 pub fn judge_text(text: &[u8], len: usize) -> u32
     ensures { result ≡ elements_number 0xFFFFFFFF 7 len text.now }
 {
@@ -165,6 +164,7 @@ pub fn judge_text(text: &[u8], len: usize) -> u32
 
 // The number for the elements of FILTER, under the dictionary's size: by element 8 then 11, else 0. Of those before the first that is no offset,
 // none may stand twice.
+#[tactic(auto, using(crate::proofs::Filters::filters_number_by))]
 pub fn judge_filters(values: &[i32], strings: u32) -> u32
     ensures { result ≡ filters_number strings (map (of_z w32) values.now) }
 {
@@ -180,6 +180,7 @@ pub fn judge_filters(values: &[i32], strings: u32) -> u32
 }
 
 // The number for an allele's bytes: 9 where one is not from 21 to 7E, else 0.
+#[tactic(auto, unfolding(crate::specs::Given::allele_number))]
 pub fn judge_allele(text: &[u8]) -> u32
     ensures { result ≡ allele_number text.now }
 {

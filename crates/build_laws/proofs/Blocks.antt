@@ -15,11 +15,8 @@ use Rattle.facts.specs.declared.Facts.{Facts}
 use Rattle.site.specs.Alleles.{allele}
 use Rattle.site.specs.Site.{info, site}
 use Rattle.site.specs.Steps.{times}
-use Rattle.site.specs.declared.Step.{Step}
-use Rattle.site.specs.declared.Step.TheVariants.{At}
 use Rattle.genotypes.specs.Formats.{format_field, so_many, formats, role_of, gt_now, gt_at}
 use Rattle.genotypes.specs.declared.Gt.{Gt}
-use Rattle.genotypes.specs.declared.Genotypes.TheVariants.{Sound}
 use Rattle.fetch.proofs.Inside.{drop_past}
 use Rattle.encode.specs.Encode.{integer_bytes, descriptor_bytes}
 use Rattle.shown.specs.Shown.{Shown, Kind, integers, floats, text, Field, is_integers}
@@ -27,26 +24,28 @@ use Rattle.shown.specs.Values.{written_as, given_bytes, pair_bytes}
 use Rattle.build_rules.specs.Values.{given_as}
 use Rattle.build_laws.specs.Records.{All, KeepsAllele, KeepsInfo, KeepsField, KeepsFields, Keeps}
 use Rattle.shown.specs.Records.{joined, text_bytes, info_bytes, format_bytes, site_bytes}
+use Rattle.std.specs.Prelude.{Ok}
+use Rattle.values.specs.Answers.{Answer}
 use Rattle.build_laws.proofs.Values.{length_given, drop_front, sound_given, id_given_lem, allele_given_lem, filter_given_lem, keyed_bytes, info_given_lem}
 
 -- a step past each of a list is so many steps past all
-times_joined : {A : Type 0} (step : ℕ → List ℕ → Step) (f : A → List ℕ) (P : A → Type 0)
-    → ((at : ℕ) (x : A) (m : List ℕ) → P x → length (f x) ≤ most_bytes → step at (f x ++ m) ≡ At (at + length (f x)))
+times_joined : {A : Type 0} (step : ℕ → List ℕ → Answer ℕ) (f : A → List ℕ) (P : A → Type 0)
+    → ((at : ℕ) (x : A) (m : List ℕ) → P x → length (f x) ≤ most_bytes → step at (f x ++ m) ≡ Ok (at + length (f x)))
     → (at : ℕ) (xs : List A) (m : List ℕ) → All P xs → length (joined f xs) ≤ most_bytes
-    → times step (length xs) at (joined f xs ++ m) ≡ At (at + length (joined f xs))
+    → times step (length xs) at (joined f xs ++ m) ≡ Ok (at + length (joined f xs))
 unfolding times joined
-times_joined step f P on at [] m h k = ap At (omega arith)
+times_joined step f P on at [] m h k = ap Ok (omega arith)
 times_joined step f P on at (x ∷ xs) m h k =
     let b = f x in
     let rest = joined f xs in
     let n = length-append b rest in
     let e : at + length b + length rest ≡ at + length (b ++ rest) = omega arith in
     rw (append_assoc b rest m, on at x (rest ++ m) h.0 (omega arith), drop_front at b (rest ++ m))
-    (times_joined step f P on (at + length b) xs m h.1 (omega arith) ∙ ap At e)
+    (times_joined step f P on (at + length b) xs m h.1 (omega arith) ∙ ap Ok e)
 
 -- the site block
 pub site_bytes_lem : (f : Facts) (r : Shown) (at : ℕ) → Keeps f r → length (site_bytes r) ≤ most_bytes
-    → site f.strings (length r.alleles) (length r.infos) at (site_bytes r) ≡ At (at + length (site_bytes r))
+    → site f.strings (length r.alleles) (length r.infos) at (site_bytes r) ≡ Ok (at + length (site_bytes r))
 unfolding site site_bytes
 site_bytes_lem f r at k h =
     let a = text_bytes r.id in
@@ -58,7 +57,7 @@ site_bytes_lem f r at k h =
     let z = length-append c d in
     let e : at + length a + length b + length c + length d ≡ at + length (a ++ (b ++ (c ++ d))) = omega arith in
     let q = at + length a + length b + length c in
-    let i : times (info f.strings) (length r.infos) q d ≡ At (q + length d) =
+    let i : times (info f.strings) (length r.infos) q d ≡ Ok (q + length d) =
     rw (append-nil d) at
     (times_joined (info f.strings) info_bytes (KeepsInfo f.strings) (info_given_lem f.strings) q r.infos [] k.infos (omega arith)) in
     let none : drop (q + length d - q) d ≡ [] = rw (append-nil d) at (drop_front q d []) in
@@ -71,7 +70,7 @@ site_bytes_lem f r at k h =
       drop_front (at + length a + length b) c d,
       i,
       none,
-    ) (ap At e)
+    ) (ap Ok e)
 
 -- a FORMAT field's value may have its use: GT is integers
 pub allowed_format : (k : Kind) → allowed (row_of (given_as k)) Format ≡ true
@@ -145,7 +144,7 @@ formats_field f alleles n earlier known at x rest p k h =
 -- the genotype block, with where GT stands
 pub record Genotyped (f : Facts) (alleles : ℕ) (earlier : List ℕ) (known : Gt) (at : ℕ) (xs : List Field) : Type 0 where
   pub gt : Gt
-  pub read : formats f.strings f.people f.gt alleles (length xs) earlier known at (joined format_bytes xs) ≡ Sound gt
+  pub read : formats f.strings f.people f.gt alleles (length xs) earlier known at (joined format_bytes xs) ≡ Ok gt
 
 pub formats_bytes : (f : Facts) (alleles : ℕ) (earlier : List ℕ) (known : Gt) (at : ℕ) (xs : List Field) → (0 < length xs → 0 < f.people)
     → KeepsFields f alleles earlier xs → length (joined format_bytes xs) ≤ most_bytes → Genotyped f alleles earlier known at xs

@@ -10,9 +10,8 @@ use Rattle.stores.proofs.Inside.{sets_start}
 use Rattle.facts.specs.declared.Facts.{Facts}
 use Rattle.fixed.specs.declared.Site.{Site}
 use Rattle.genotypes.specs.declared.Gt.{Gt}
-use Rattle.record.specs.Reading.{reading}
+use Rattle.record.specs.Reading.{reading, accepted_as}
 use Rattle.shown.specs.Shown.{Shown}
-use Rattle.record.specs.declared.Reading.TheVariants.{Accepted}
 use Rattle.build.specs.Turns.{fresh_state}
 use Rattle.build.specs.declared.Builder.{Builder}
 use Rattle.contents.specs.Contents.{shown_of}
@@ -24,6 +23,7 @@ use Rattle.build_laws.proofs.ReadBack.{reads}
 use Rattle.build_laws.proofs.Written.{run_turns}
 use Rattle.build_laws.proofs.Ordered.{turns_ordered}
 use Rattle.build_laws.proofs.Kept.{turns_keep, turns_room, turns_fit}
+use Rattle.record.proofs.Accepted.{same_reading}
 
 -- turns lead to one state and one buffer only
 run_same : {f : Facts} {st last last' : Builder} {buf out out' : List ℕ} {xs : List Turn} → Run f st buf xs last out → Run f st buf xs last' out'
@@ -108,13 +108,13 @@ tight_reads f s x =
       shows = rw e at r.shows;
     }
 
-pub tight_again : (f : Facts) (s buf : List ℕ) (t : Site) (g : Gt) → Tight f s → reading f s ≡ Accepted t g → length s ≤ length buf
+pub tight_again : (f : Facts) (s buf : List ℕ) (t : Site) (g : Gt) → Tight f s → reading f s ≡ accepted_as t g → length s ≤ length buf
     → Builds f (shown_of t s) buf s
 tight_again f s buf t g x h room =
     let k = turns_keep f x.turns x.buf x.finished x.fit in
     let r = tight_reads f s x in
     let a = sym h ∙ r.read in
-    let e : t ≡ r.site = cc in
+    let e = (same_reading a).0 in
     let shows : shown_of t s ≡ gives x.turns = ap (λ (u : Site). shown_of u s) e ∙ r.shows in
     again (gives x.turns) (shown_of t s) shows k (tight_record f s x)
   where

@@ -18,12 +18,12 @@ use Rattle.types.specs.declared.Element.{Element}
 use Rattle.types.specs.declared.Element.TheVariants.{Plain, Missing, End, Reserved}
 use Rattle.types.specs.declared.Use.{Use}
 use Rattle.vectors.specs.Sound.{most_of}
-use Rattle.vectors.specs.Vectors.{numbers, shown_numbers, element_turn, follow, vector, and_then, vectors, judged}
-use Rattle.vectors.specs.declared.Judged.{Judged}
-use Rattle.vectors.specs.declared.Judged.TheVariants.{Sound, Refused as Unsound}
+use Rattle.vectors.specs.Vectors.{numbers, shown_numbers, element_turn, follow, vector, and_then, vectors, judged, Sound}
 use Rattle.encode.specs.Encode.{narrowed, elements_bytes}
 use Rattle.build_given.specs.Given.{number_of, vectors_given, elements_number}
 use Rattle.build_laws.specs.Records.{All}
+use Rattle.std.specs.Prelude.{Err}
+use Rattle.values.specs.Answers.{Answer}
 use Rattle.build_laws.proofs.Widths.{Held, stored, number_stored, shown_held}
 
 -- elements take their width each
@@ -71,7 +71,7 @@ unfolding vector
 number_vector most t w at e [] h = refl
 number_vector most t w at e (x ∷ xs) h = by_kind (kind t x) e h (λ b. number_vector most t w (at + w) b xs)
   where
-    rest : Bool → Judged
+    rest : Bool → Answer (Unit {0})
     rest b = vector most t w (at + w) b xs
 
     by_kind : (k : Element) (b : Bool) → number_of (follow at (element_turn most b k x) rest) ≡ 0
@@ -95,10 +95,10 @@ vector_stored t g w w' at at' alleles role e [] f h = refl
 vector_stored t g w w' at at' alleles role e (x ∷ xs) f h =
     rw f.0.same (by_kind (kind g x) e h (λ b. vector_stored t g w w' (at + w) (at' + w') alleles role b xs f.1))
   where
-    given : Bool → Judged
+    given : Bool → Answer (Unit {0})
     given b = vector (most_of role alleles g) g w (at + w) b xs
 
-    held : Bool → Judged
+    held : Bool → Answer (Unit {0})
     held b = vector (most_of role alleles t) t w' (at' + w') b (map (stored t) xs)
 
     by_kind : (k : Element) (b : Bool) → follow at (element_turn (most_of role alleles g) b k x) given ≡ Sound → ((b : Bool) → given b ≡ Sound → held b ≡ Sound)
@@ -117,9 +117,9 @@ vector_stored t g w w' at at' alleles role e (x ∷ xs) f h =
             rw (le-ltb (most_of role alleles t) (stored t x) i) (on false (rw p at s))
 
 -- both of two are sound where their number is 0 and the first one's says so
-number_both : (a b : Judged) → (number_of a ≡ 0 → a ≡ Sound) → number_of (and_then a b) ≡ 0 → (a ≡ Sound) × (number_of b ≡ 0)
+number_both : (a b : Answer (Unit {0})) → (number_of a ≡ 0 → a ≡ Sound) → number_of (and_then a b) ≡ 0 → (a ≡ Sound) × (number_of b ≡ 0)
 number_both Sound b f h = (refl, h)
-number_both (Unsound r) b f h = let e = f h in let z : ◌≡◌ {A = ℕ} 0 1 = cc in absurd (omega arith)
+number_both (Err r) b f h = let e = f h in let z : ◌≡◌ {A = ℕ} 0 1 = cc in absurd (omega arith)
 
 held_take : (t g n : ℕ) (xs : List ℕ) → All (Held t g) xs → All (Held t g) (take n xs)
 held_take t g zero xs h = tt

@@ -16,7 +16,6 @@ use Rattle.fixed.specs.Layout.{id_at, most_bytes}
 use Rattle.facts.specs.declared.Facts.{Facts}
 use Rattle.encode.specs.Encode.{integer_bytes, descriptor_bytes, widest}
 use Rattle.site.specs.Steps.{times}
-use Rattle.site.specs.declared.Step.TheVariants.{At}
 use Rattle.shown.specs.Shown.{Shown, Kind, integers, floats, text, Pair, Field, kind_of}
 use Rattle.vectors.specs.Vectors.{elements_of}
 use Rattle.fetch.specs.Fields.{alone, paired, field_at}
@@ -34,6 +33,7 @@ use Rattle.build_laws.proofs.Widths.{widest_types, held_written}
 use Rattle.build_laws.proofs.Elements.{length_elements_bytes, shown_numbers_elements}
 use Rattle.build_laws.proofs.Values.{written_type, one_vector, present_given, drop_front, elements_drop, elements_size, integer_bytes_lem, key_bits, allowed_info}
 use Rattle.build_laws.proofs.Blocks.{allowed_format, length_person}
+use Rattle.std.specs.Prelude.{Ok}
 use Rattle.build_laws.proofs.Front.{site_for, site_block, genotype_block}
 
 -- the kind of the type that a value is written in
@@ -78,9 +78,9 @@ alleles_given at (x ∷ xs) m k h =
     )
 
 alleles_past : (at : ℕ) (xs : List (List ℕ)) (m : List ℕ) → All KeepsAllele xs → length (joined text_bytes xs) ≤ most_bytes
-    → past AlleleKind 1 (length xs) at (joined text_bytes xs ++ m) ≡ At (at + length (joined text_bytes xs))
+    → past AlleleKind 1 (length xs) at (joined text_bytes xs ++ m) ≡ Ok (at + length (joined text_bytes xs))
 unfolding past times passing alone joined row_of
-alleles_past at [] m k h = ap At (omega arith)
+alleles_past at [] m k h = ap Ok (omega arith)
 alleles_past at (x ∷ xs) m k h =
     let b = text_bytes x in
     let rest = joined text_bytes xs in
@@ -91,7 +91,7 @@ alleles_past at (x ∷ xs) m k h =
       present_given 1 Allele at text (length x) x (rest ++ m) refl (one_vector text x (omega arith)) (omega arith),
       drop_front at b (rest ++ m),
     )
-    (alleles_past (at + length b) xs m k.1 (omega arith) ∙ ap At e)
+    (alleles_past (at + length b) xs m k.1 (omega arith) ∙ ap Ok e)
 
 -- a key and its value, and then what follows them
 items_pair : (kind : FieldKind) (kinds : List FieldKind) (people vectors : ℕ) (role : Use) (at key : ℕ) (k : Kind) (n : ℕ) (xs rest : List ℕ)

@@ -1,4 +1,5 @@
 -- One turn of a run: the number of what is wrong with it, and the state and the buffer after it where that is 0. Rests on specs/Runs.
+use Rattle.build.specs.Answers.{Taken}
 use mathlib.Core.Path.{◌≡◌, refl, ◌∙◌, ap}
 use mathlib.Core.List.{List, [], ◌∷◌}
 use mathlib.Core.Bool.{Bool, true, false}
@@ -18,7 +19,6 @@ use Rattle.shown.specs.Front.{front_bytes}
 use Rattle.build.specs.Turns.{in_site, in_genotypes, begin_number, begun_state, begun, after_begin, id_number, id_given, after_id, allele_rules, allele_given, after_allele, filter_rules, filter_given, after_filter, info_rules, info_given, after_info, format_rules, format_given, after_format, end_number, ended_state, filled_in, built, after_end}
 use Rattle.build.specs.declared.Stage.TheVariants.{Named, Alleles, Filtered, Infos}
 use Rattle.build.specs.declared.Builder.{Builder}
-use Rattle.build.specs.declared.Answer.TheVariants.{Taken}
 use Rattle.build.specs.declared.Turned.{Turned}
 use Rattle.shown.specs.Records.{text_bytes, info_bytes, format_bytes}
 use Rattle.build_laws.specs.Runs.{Turn, begin, id, allele, filter, info, format, end, answers, writes, Run, done, next}

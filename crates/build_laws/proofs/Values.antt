@@ -20,20 +20,13 @@ use Rattle.types.specs.declared.Use.{Use}
 use Rattle.types.specs.declared.Use.TheVariants.{Id, Allele, Filter, Integer as IntegerUse, Info, Format, Gt}
 use Rattle.values.proofs.Stand.{may_stand_wide}
 use Rattle.values.specs.Values.{integer, true_length, keyed, described, present}
-use Rattle.values.specs.declared.Integer.TheVariants.{One}
-use Rattle.values.specs.declared.Descriptor.TheVariants.{Typed}
-use Rattle.values.specs.declared.Value.{Value}
-use Rattle.values.specs.declared.Value.TheVariants.{Present}
 use Rattle.vectors.specs.Sound.{most_of, sound}
-use Rattle.vectors.specs.Vectors.{unsound}
-use Rattle.vectors.specs.declared.Judged.{Judged}
-use Rattle.vectors.specs.declared.Judged.TheVariants.{Sound}
+use Rattle.vectors.specs.Vectors.{unsound, Sound}
 use Rattle.fixed.specs.Layout.{most_bytes}
 use Rattle.site.specs.Alleles.{allele_bytes, allele}
 use Rattle.site.specs.Filters.{filters, filtered, filter}
 use Rattle.site.specs.Site.{info}
 use Rattle.site.specs.Steps.{value_step}
-use Rattle.site.specs.declared.Step.TheVariants.{At}
 use Rattle.shown.specs.Shown.{Kind, integers, floats, text, Pair}
 use Rattle.encode.specs.Encode.{integer_bytes, descriptor_bytes, widest, narrowed, elements_bytes, value_bytes}
 use Rattle.build_given.specs.Given.{number_of, filters_number, allele_number}
@@ -43,6 +36,9 @@ use Rattle.build_rules.specs.Values.{any, given_as, given_number}
 use Rattle.build_laws.specs.Records.{Fit, KeepsAllele, KeepsInfo}
 use Rattle.shown.specs.Records.{text_bytes, info_bytes}
 use Rattle.build_laws.proofs.Widths.{narrowest_types, shown_narrowest, widest_types, held_written}
+use Rattle.std.specs.Prelude.{Ok}
+use Rattle.values.specs.declared.Value.{Value}
+use Rattle.values.specs.Answers.{one, typed, Answer, whole}
 use Rattle.build_laws.proofs.Elements.{length_elements_bytes, shown_numbers_elements, judged_elements}
 
 -- types 1 to 3, one by one
@@ -68,7 +64,7 @@ unfolding row_of
 allowed_integers role t h k e = by_type (λ t. allowed (row_of t) role ≡ true) (same_uses 1 4 role ∙ e) (same_uses 2 4 role ∙ e) e t h k
 
 -- one integer
-pub integer_bytes_lem : (at x : ℕ) (m : List ℕ) → x < 4294967296 → integer at (integer_bytes x ++ m) ≡ One x (at + length (integer_bytes x))
+pub integer_bytes_lem : (at x : ℕ) (m : List ℕ) → x < 4294967296 → integer at (integer_bytes x ++ m) ≡ one x (at + length (integer_bytes x))
 unfolding integer integer_bytes row_of
 integer_bytes_lem at x m h =
     let t = narrowest x in
@@ -83,20 +79,20 @@ integer_bytes_lem at x m h =
 
 -- a true length
 pub true_length_bytes : (at n : ℕ) (m : List ℕ) → 15 ≤ n → n < 2147483648
-    → true_length at (integer_bytes n ++ m) ≡ One n (at + length (integer_bytes n))
+    → true_length at (integer_bytes n ++ m) ≡ one n (at + length (integer_bytes n))
 unfolding true_length row_of
 true_length_bytes at n m l h =
     rw (integer_bytes_lem at n m (omega arith), le-ltb n 15 l, lt-leb 2147483648 n h)
 
 -- a descriptor
 pub described_bytes : (role : Use) (at t n : ℕ) (m : List ℕ) → allowed (row_of t) role ≡ true → (t < 16) × (0 < width_of t) → n < 2147483648
-    → described role at (descriptor_bytes t n ++ m) ≡ Typed t n (at + length (descriptor_bytes t n))
+    → described role at (descriptor_bytes t n ++ m) ≡ typed t n (at + length (descriptor_bytes t n))
 unfolding described descriptor_bytes
 described_bytes role at t n m e k h = by-test (ltb n 15) refl
   where
     by-test : (b : Bool) → ltb n 15 ≡ b
         → described role at (pick b ((n * 16 + t % 16) ∷ []) ((0xF0 + t % 16) ∷ integer_bytes n) ++ m)
-        ≡ Typed t n (at + length (pick b ((n * 16 + t % 16) ∷ []) ((0xF0 + t % 16) ∷ integer_bytes n)))
+        ≡ typed t n (at + length (pick b ((n * 16 + t % 16) ∷ []) ((0xF0 + t % 16) ∷ integer_bytes n)))
     by-test true s =
         let low : (n * 16 + t % 16) % 16 ≡ t = omega arith in
         let high : (n * 16 + t % 16) / 16 ≡ n = omega arith in
@@ -111,7 +107,7 @@ described_bytes role at t n m e k h = by-test (ltb n 15) refl
 pub present_bytes : (vectors : ℕ) (role : Use) (at t n : ℕ) (xs m : List ℕ) → allowed (row_of t) role ≡ true → (t < 16) × (0 < width_of t)
     → n < 2147483648
     → length xs ≡ vectors * n
-    → present vectors role at (value_bytes t n xs ++ m) ≡ Present t n (at + length (descriptor_bytes t n)) (at + length (value_bytes t n xs))
+    → present vectors role at (value_bytes t n xs ++ m) ≡ whole t n (at + length (descriptor_bytes t n)) (at + length (value_bytes t n xs))
 unfolding present value_bytes
 present_bytes vectors role at t n xs m e k h c =
     let d = descriptor_bytes t n in
@@ -146,9 +142,9 @@ length_given k n xs =
     rw (length-append, length_elements_bytes t xs) (omega arith)
 
 -- where a value that was given stands: its type, its length, its first element and the place after it
-abbrev pub given_value : Kind → ℕ → List ℕ → ℕ → Value
+abbrev pub given_value : Kind → ℕ → List ℕ → ℕ → Answer Value
 given_value k n xs at =
-    Present (written_as k xs) n (at + length (descriptor_bytes (written_as k xs) n)) (at + length (given_bytes k n xs))
+    whole (written_as k xs) n (at + length (descriptor_bytes (written_as k xs) n)) (at + length (given_bytes k n xs))
 
 pub present_given : (vectors : ℕ) (role : Use) (at : ℕ) (k : Kind) (n : ℕ) (xs m : List ℕ) → allowed (row_of (given_as k)) role ≡ true
     → n < 2147483648 → length xs ≡ vectors * n → present vectors role at (given_bytes k n xs ++ m) ≡ given_value k n xs at
@@ -193,7 +189,7 @@ one_vector k xs h = let e = length_given k (length xs) xs in omega arith
 
 -- ID
 pub id_given_lem : (at : ℕ) (xs m : List ℕ) → Fit text xs → given_number any text (length xs) xs ≡ 0 → length (text_bytes xs) ≤ most_bytes
-    → value_step (sound 1 0 Id at (text_bytes xs ++ m)) ≡ At (at + length (text_bytes xs))
+    → value_step (sound 1 0 Id at (text_bytes xs ++ m)) ≡ Ok (at + length (text_bytes xs))
 unfolding row_of
 id_given_lem at xs m f r h = rw (sound_given 1 0 Id at text (length xs) xs m refl (one_vector text xs h) (omega arith) f r)
 
@@ -217,7 +213,7 @@ number_allele at at' (b ∷ bs) h = by_tests (ltb b 0x21) (ltb 0x7E b) h (number
     by_tests false false s on = on s
 
 pub allele_given_lem : (at : ℕ) (xs m : List ℕ) → KeepsAllele xs → length (text_bytes xs) ≤ most_bytes
-    → allele at (text_bytes xs ++ m) ≡ At (at + length (text_bytes xs))
+    → allele at (text_bytes xs ++ m) ≡ Ok (at + length (text_bytes xs))
 unfolding allele row_of given_bytes allele_number
 allele_given_lem at xs m k h =
     rw (
@@ -236,10 +232,10 @@ number_filters strings w w' at at' earlier [] h = refl
 number_filters strings w w' at at' earlier (x ∷ xs) h =
     by_tests (outside strings x) (among x earlier) h (number_filters strings w w' (at + w) (at' + w') (x ∷ earlier) xs)
   where
-    given : Judged
+    given : Answer (Unit {0})
     given = filters strings w (at + w) (x ∷ earlier) xs
 
-    held : Judged
+    held : Answer (Unit {0})
     held = filters strings w' (at' + w') (x ∷ earlier) xs
 
     by_tests : (a b : Bool) → number_of (pick a (unsound 8 at) (pick b (unsound 11 at) given)) ≡ 0 → (number_of given ≡ 0 → held ≡ Sound)
@@ -260,7 +256,7 @@ filtered_elements strings k xs f r =
 
 pub filter_given_lem : (strings at : ℕ) (xs m : List ℕ) → Fit integers xs → filters_number strings xs ≡ 0
     → length (given_bytes integers (length xs) xs) ≤ most_bytes
-    → filter strings at (given_bytes integers (length xs) xs ++ m) ≡ At (at + length (given_bytes integers (length xs) xs))
+    → filter strings at (given_bytes integers (length xs) xs ++ m) ≡ Ok (at + length (given_bytes integers (length xs) xs))
 unfolding filter row_of given_bytes
 filter_given_lem strings at xs m f r h =
     rw (
@@ -287,7 +283,7 @@ key_bits strings key h = by-test (leb 0x80000000 key) refl (key_inside strings k
     by-test false e z = omega (arith, leb-false 0x80000000 key e)
 
 pub keyed_bytes : (strings at key : ℕ) (m : List ℕ) → key_number strings key ≡ 0
-    → keyed strings at (integer_bytes key ++ m) ≡ One key (at + length (integer_bytes key))
+    → keyed strings at (integer_bytes key ++ m) ≡ one key (at + length (integer_bytes key))
 unfolding keyed row_of
 keyed_bytes strings at key m k = rw (integer_bytes_lem at key m (key_bits strings key k), key_inside strings key k)
 
@@ -300,7 +296,7 @@ allowed_info text = refl
 
 -- an INFO pair
 pub info_given_lem : (strings at : ℕ) (p : Pair) (m : List ℕ) → KeepsInfo strings p → length (info_bytes p) ≤ most_bytes
-    → info strings at (info_bytes p ++ m) ≡ At (at + length (info_bytes p))
+    → info strings at (info_bytes p ++ m) ≡ Ok (at + length (info_bytes p))
 unfolding info pair_bytes
 info_given_lem strings at p m k h =
     let key = p.key in

@@ -3,9 +3,8 @@ use Rattle.std.specs.Prelude.{ℕ, ◌≡◌, List, take}
 use Rattle.facts.specs.declared.Facts.{Facts}
 use Rattle.fixed.specs.declared.Site.{Site}
 use Rattle.genotypes.specs.declared.Gt.{Gt}
-use Rattle.record.specs.Reading.{reading}
+use Rattle.record.specs.Reading.{reading, accepted_as}
 use Rattle.shown.specs.Shown.{Shown}
-use Rattle.record.specs.declared.Reading.TheVariants.{Accepted}
 use Rattle.contents.specs.Contents.{shown_of}
 use Rattle.build_laws.specs.Records.{All}
 use Rattle.build_laws.specs.Runs.{Turn, turns_of, gives, FitTurn, Finished}
@@ -18,7 +17,7 @@ wrote b = take b.last.at b.out
 pub record ReadsBack (f : Facts) (xs : List Turn) (out : List ℕ) (length : ℕ) : Type 0 where
   pub site : Site
   pub gt : Gt
-  pub read : reading f out ≡ Accepted site gt
+  pub read : reading f out ≡ accepted_as site gt
   pub whole : site.length ≡ length
   pub people : site.people ≡ f.people
   pub shows : shown_of site out ≡ gives xs

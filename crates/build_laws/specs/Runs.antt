@@ -1,12 +1,12 @@
 -- Turns as they are given, one after the other, over a buffer that nobody else touches, and what they give together. Rests on build's turns
 -- and on what a record shows.
+use Rattle.build.specs.Answers.{Taken}
 use Rattle.std.specs.Prelude.{ℕ, ◌<◌, ◌≡◌, List, [], ◌∷◌, ◌++◌, map, length}
 use Rattle.facts.specs.declared.Facts.{Facts}
 use Rattle.shown.specs.Shown.{Shown, integers, text, Pair, Field}
 use Rattle.build.specs.Turns.{fresh_state, begun, after_begin, id_given, after_id, allele_given, after_allele, filter_given, after_filter, info_given, after_info, format_given, after_format, built, after_end}
 use Rattle.build.specs.declared.Stage.TheVariants.{Ended}
 use Rattle.build.specs.declared.Builder.{Builder}
-use Rattle.build.specs.declared.Answer.TheVariants.{Taken}
 use Rattle.build.specs.declared.Turned.{Turned}
 use Rattle.build_laws.specs.Records.{Fit}
 

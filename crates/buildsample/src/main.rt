@@ -9,11 +9,7 @@ use std::io::Write;
 
 // Whether a turn was taken.
 fn is_taken(turned: Turned) -> bool {
-    let answer = turned.answer;
-    match answer {
-        build::Answer::Taken => true,
-        build::Answer::Refused(_) => false,
-    }
+    turned.answer.is_ok()
 }
 
 // The turns up to the last allele, or to the first that is refused.
@@ -78,11 +74,9 @@ fn print_answer<W: Write>(
     frame: &mut [u8],
     out: &mut [u8],
 ) {
-    let a = frames::answer_line(line, facts, frame, out);
-    let frames::Answer::Text(n) = a else {
-        return;
-    };
-    let _ = output.write_all(&out[..n]);
+    if let Some(n) = frames::answer_line(line, facts, frame, out) {
+        let _ = output.write_all(&out[..n]);
+    }
 }
 
 // Prints a record's bytes as a line, then the answer to that line.

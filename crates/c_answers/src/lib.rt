@@ -3,23 +3,20 @@
 // hold. Rests on the answers of reading, fetching, showing, tallying, choosing, printing and walking.
 #![tactic(auto)]
 
-ghost use Rattle.std.specs.Prelude.{◌≡◌, ◌-◌, length};
+ghost use Rattle.std.specs.Prelude.{◌≡◌, length, Ok};
 ghost use Rattle.stores.specs.Stores.{filled};
-ghost use Rattle.c_answers.specs.Told.{answer, refused_answer, told_answer, site_told, empty_site, reading_answer, reading_numbers, found_answer, found_numbers, pair_answer, pair_numbers, opening_answer, shown_answer, tallied_answer, tallied_numbers, counting_answer, counting_numbers, choosing_answer, line_number};
-ghost use Rattle.fetch.specs.declared.Found.TheVariants.{Field};
-ghost use Rattle.tally.specs.declared.Counting.TheVariants.{Counted};
+ghost use Rattle.c_answers.specs.Stored.{stored};
+ghost use Rattle.c_answers.specs.Told.{answer, refused_answer, told_answer, site_told, empty_site, reading_answer, reading_numbers, found_answer, found_numbers, pair_answer, pair_numbers, one_answer, shown_answer, tallied_answer, tallied_numbers, counting_answer, counting_numbers};
 
 use calls::Calls;
-use choose::Choosing;
 use elements::Shown;
 use fetch::Found;
 use fixed::Site;
 use genotypes::Gt;
 use record::Reading;
-use tally::{Counting, Tallied};
+use tally::Tallied;
 use values::Refusal;
-use vcf_line::Line;
-use walker::{Opening, Pair};
+use walker::Pair;
 
 // A number in the high half, and the low 32 bits of a place or a length in the low half.
 pub fn answer_of(number: u32, low: usize) -> u64
@@ -35,40 +32,24 @@ pub fn refused_answer(r: Refusal) -> u64
     answer_of(r.number, r.place)
 }
 
-// How far one place is after another; 0 where it is before it.
-fn distance(from: usize, to: usize) -> usize
-    ensures { result ≡ to - from }
+// Stores values at a place of a lent slice, where they have room.
+#[tactic(auto, using(crate::proofs::Room::stored_short, crate::proofs::Room::stored_part))]
+pub fn put_all<T: Copy>(out: &mut [T], at: usize, values: &[T])
+    ensures { out.new ≡ stored out.old at values.now }
 {
-    if to < from {
-        return 0;
-    }
-    to - from
-}
-
-// Stores numbers at a place of a lent slice, where they have room.
-fn put_numbers(out: &mut [u64], at: usize, numbers: &[u64])
-    ensures { out.new ≡ filled out.old at numbers.now }
-{
-    if out.len() < at {
-        return;
-    }
-    if out.len() - at < numbers.len() {
-        return;
-    }
-    let mut i = 0;
-    while i < numbers.len() {
-        out[at + i] = numbers[i];
-        i += 1;
+    if at <= out.len() && values.len() <= out.len() - at {
+        out[at..at + values.len()].copy_from_slice(values);
     }
 }
 
 // Tells numbers and a length, or 13 where they have no room.
+#[tactic(auto, using(crate::proofs::Room::told_short, crate::proofs::Room::told_room, crate::proofs::Room::stored_numbers))]
 fn tell(out: &mut [u64], numbers: &[u64], low: usize) -> u64
     ensures told { result ≡ told_answer (length out.old) numbers.now low }
     ensures written { out.new ≡ filled out.old 0 numbers.now }
 {
     let room = out.len();
-    put_numbers(out, 0, numbers);
+    put_all(out, 0, numbers);
     if room < numbers.len() {
         return answer_of(13, 0);
     }
@@ -77,12 +58,13 @@ fn tell(out: &mut [u64], numbers: &[u64], low: usize) -> u64
 
 // Tells what reading answered: its refusal; else 13 for less than 13 numbers of room; else the record's length, and in `out` the length, the
 // border, the fixed fields, the counts, and where GT stands.
-pub fn tell_reading(r: Reading, out: &mut [u64]) -> u64
-    ensures told { result ≡ reading_answer (length out.old) r }
-    ensures written { out.new ≡ reading_numbers out.old r }
+pub fn tell_reading(reading: Result<Reading, Refusal>, out: &mut [u64]) -> u64
+    ensures told { result ≡ reading_answer (length out.old) reading }
+    ensures written { out.new ≡ reading_numbers out.old reading }
 {
-    let Reading::Accepted { site, gt } = r else {
-        return refused_answer(record::reading_refusal(r));
+    let Reading { site, gt } = match reading {
+        Ok(accepted) => accepted,
+        Err(r) => return refused_answer(r),
     };
     let pos = positions::to_bits(site.pos);
     let numbers = [
@@ -143,89 +125,97 @@ pub fn site_told(numbers: &[u64]) -> Site
 }
 
 // Tells a field: its key, type, length, the place of its first element and the place after its last.
-fn tell_field(out: &mut [u64], key: u32, code: u8, len: u32, place: usize, stop: usize) -> u64
-    ensures told { result ≡ found_answer (length out.old) (Field key code len place stop) }
-    ensures written { out.new ≡ found_numbers out.old (Field key code len place stop) }
+fn tell_field(out: &mut [u64], field: Found) -> u64
+    ensures told { result ≡ found_answer (length out.old) (Ok field) }
+    ensures written { out.new ≡ found_numbers out.old (Ok field) }
 {
     let numbers = [
-        key as u64,
-        code as u64,
-        len as u64,
-        place as u64,
-        stop as u64,
+        field.key as u64,
+        field.code as u64,
+        field.len as u64,
+        field.place as u64,
+        field.stop as u64,
     ];
-    tell(out, &numbers, distance(place, stop))
+    tell(out, &numbers, field.stop.saturating_sub(field.place))
 }
 
 // Tells what fetching answered: its refusal; else 13 for less than 5 numbers of room; else how many bytes the field's part has, and in `out` key,
 // type, length, place and end.
-pub fn tell_found(f: Found, out: &mut [u64]) -> u64
+pub fn tell_found(f: Result<Found, Refusal>, out: &mut [u64]) -> u64
     ensures told { result ≡ found_answer (length out.old) f }
     ensures written { out.new ≡ found_numbers out.old f }
 {
     match f {
-        Found::Field {
-            key,
-            code,
-            len,
-            place,
-            stop,
-        } => tell_field(out, key, code, len, place, stop),
-        Found::Refused(r) => refused_answer(r),
+        Ok(field) => tell_field(out, field),
+        Err(r) => refused_answer(r),
     }
 }
 
 // Tells a pair of the walker as a fetched field is told; 16 where there is none.
-pub fn tell_pair(p: Pair, out: &mut [u64]) -> u64
+pub fn tell_pair(p: Option<Pair>, out: &mut [u64]) -> u64
     ensures told { result ≡ pair_answer (length out.old) p }
     ensures written { out.new ≡ pair_numbers out.old p }
 {
     match p {
-        Pair::Found {
-            key,
-            code,
-            len,
-            place,
-            next,
-        } => tell_field(out, key, code, len, place, next),
-        Pair::End => answer_of(16, 0),
+        Some(
+            Pair {
+                key,
+                code,
+                len,
+                place,
+                next,
+            },
+        ) => tell_field(
+            out,
+            Found {
+                key,
+                code,
+                len,
+                place,
+                stop: next,
+            },
+        ),
+        None => answer_of(16, 0),
     }
 }
 
-// Tells where the walk of the INFO pairs begins, or the refusal.
-pub fn tell_opening(o: Opening) -> u64
-    ensures { result ≡ opening_answer o }
+// Tells the one number that an answer holds, a place or a length, or the refusal.
+pub fn tell_one(one: Result<usize, Refusal>) -> u64
+    ensures { result ≡ one_answer one }
 {
-    match o {
-        Opening::First(at) => answer_of(0, at),
-        Opening::Refused(r) => refused_answer(r),
+    match one {
+        Ok(n) => answer_of(0, n),
+        Err(r) => refused_answer(r),
     }
 }
 
 // Tells the 32 bits of the number, the float or the byte that an element is shown as; 16 where there is none.
-pub fn tell_shown(e: Shown) -> u64
+#[tactic(auto, using(words::proofs::Sign::bits_back))]
+pub fn tell_shown(e: Option<Shown>) -> u64
     ensures { result ≡ shown_answer e }
 {
-    match e {
+    let Some(shown) = e else {
+        return answer_of(16, 0);
+    };
+    match shown {
         Shown::Integer(z) => answer_of(0, words::bits(z) as usize),
         Shown::Float(b) => answer_of(0, b as usize),
         Shown::Text(b) => answer_of(0, b as usize),
-        Shown::Nothing => answer_of(16, 0),
     }
 }
 
 // Tells a tally that is counted: alleles, people, people without a genotype, missing alleles, and the calls of each of 64 alleles.
 fn tell_calls(site: Site, calls: Calls, out: &mut [u64]) -> u64
-    ensures told { result ≡ counting_answer (length out.old) calls (Counted site) }
-    ensures written { out.new ≡ counting_numbers out.old calls (Counted site) }
+    ensures told { result ≡ counting_answer (length out.old) calls (Ok site) }
+    ensures written { out.new ≡ counting_numbers out.old calls (Ok site) }
 {
     if out.len() < 68 {
         return answer_of(13, 0);
     }
     let first = [site.alleles as u64, site.people as u64, calls.without];
     let counts = calls.counts;
-    put_numbers(out, 0, &first);
-    put_numbers(out, 3, &counts);
+    put_all(out, 0, &first);
+    put_all(out, 3, &counts);
     answer_of(0, site.length)
 }
 
@@ -237,27 +227,7 @@ pub fn tell_tally(t: Tallied, out: &mut [u64]) -> u64
 {
     let answer = t.answer;
     match answer {
-        Counting::Counted(site) => tell_calls(site, t.calls, out),
-        Counting::Refused(r) => refused_answer(r),
-    }
-}
-
-// Tells the chosen record's length, or the refusal.
-pub fn tell_choosing(c: Choosing) -> u64
-    ensures { result ≡ choosing_answer c }
-{
-    match c {
-        Choosing::Chosen(n) => answer_of(0, n),
-        Choosing::Refused(r) => refused_answer(r),
-    }
-}
-
-// Tells the length of the line that was written, or the refusal.
-pub fn tell_line(l: Line) -> u64
-    ensures { result ≡ line_number l }
-{
-    match l {
-        Line::Written(n) => answer_of(0, n),
-        Line::Refused(r) => refused_answer(r),
+        Ok(site) => tell_calls(site, t.calls, out),
+        Err(r) => refused_answer(r),
     }
 }

@@ -25,22 +25,17 @@ use fetch::Kind;
 use positions::BcfPosition;
 
 // The kind of a number.
+#[tactic(auto, unfolding(crate::specs::Given::kind_given))]
 fn kind_given(kind: u32) -> Kind
     ensures { result ≡ kind_given kind }
 {
-    if kind == 1 {
-        return Kind::Allele;
+    match kind {
+        1 => Kind::Allele,
+        2 => Kind::Filter,
+        3 => Kind::Info,
+        4 => Kind::Format,
+        _ => Kind::Id,
     }
-    if kind == 2 {
-        return Kind::Filter;
-    }
-    if kind == 3 {
-        return Kind::Info;
-    }
-    if kind == 4 {
-        return Kind::Format;
-    }
-    Kind::Id
 }
 
 // The number to look for: that of no field for a kind outside the five.
@@ -180,7 +175,7 @@ pub extern "C" fn sikalumdo_choose(
         people,
         gt,
     };
-    c_answers::tell_choosing(choose::choose(s, facts, choice, buf))
+    c_answers::tell_one(choose::choose(s, facts, choice, buf))
 }
 
 // Writes one VCF data line of the record at the start of a slice into `buf`: the line's length. Names are lent as one text and the ends of the names in it.
@@ -206,7 +201,7 @@ pub extern "C" fn sikalumdo_vcf_line(
         people,
         gt,
     };
-    c_answers::tell_line(vcf_line::write_line(
+    c_answers::tell_one(vcf_line::write_line(
         s,
         facts,
         string_text,
@@ -234,7 +229,7 @@ pub extern "C" fn sikalumdo_first_pair(
         people,
         gt,
     };
-    c_answers::tell_opening(walker::opening_of(s, facts))
+    c_answers::tell_one(walker::opening_of(s, facts))
 }
 
 // The INFO pair at a place: the length of its elements' bytes; `out` gets 5 numbers, the last of them the next pair's place. 16 at the end.

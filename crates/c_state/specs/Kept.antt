@@ -1,16 +1,15 @@
 -- A build's state as a list of numbers, and back; what a turn leaves there. Rests on the builder and on answers as they are told.
-use Rattle.std.specs.Prelude.{ℕ, ◌%◌, List, ◌∷◌, ltb, eqb, length, get_or, take, drop}
+use Rattle.std.specs.Prelude.{ℕ, ◌%◌, List, ◌∷◌, ltb, eqb, length, get_or, take, drop, Err}
 use Rattle.words.specs.Pick.{pick}
 use Rattle.stores.specs.Stores.{filled}
-use Rattle.build.specs.Answers.{answer_number, answer_place}
+use Rattle.build.specs.Answers.{answer_number, answer_place, Taken}
 use Rattle.build.specs.Order.{rank}
 use Rattle.build.specs.Turns.{fresh_state, moved_to}
 use Rattle.build.specs.declared.Stage.{Stage}
 use Rattle.build.specs.declared.Stage.TheVariants.{Fresh, Begun, Named, Alleles, Filtered, Infos, Formats, Ended}
 use Rattle.build.specs.declared.Builder.{Builder}
-use Rattle.build.specs.declared.Answer.{Answer}
-use Rattle.build.specs.declared.Answer.TheVariants.{Taken, Refused}
 use Rattle.build.specs.declared.Turned.{Turned}
+use Rattle.values.specs.Answers.{Answer}
 use Rattle.c_answers.specs.Told.{answer}
 
 -- the stage of a rank; past the last one nothing is taken any more
@@ -51,16 +50,16 @@ state_of ns =
     })
 
 -- a turn: its number, with 0 the bytes written so far, else the place; the numbers hold the next state, and on a refusal what they held
-abbrev pub turn_low : Builder → Answer → ℕ
+abbrev pub turn_low : Builder → Answer (Unit {0}) → ℕ
 turn_low st Taken = st.at
-turn_low st (Refused r) = answer_place (Refused r)
+turn_low st (Err r) = answer_place (Err r)
 
 abbrev pub turn_answer : Turned → ℕ
 turn_answer t = answer (answer_number t.answer) (turn_low t.state t.answer)
 
-abbrev pub held_after : List ℕ → Builder → Answer → List ℕ
+abbrev pub held_after : List ℕ → Builder → Answer (Unit {0}) → List ℕ
 held_after ns st Taken = filled ns 0 (state_numbers st)
-held_after ns st (Refused r) = ns
+held_after ns st (Err r) = ns
 
 abbrev pub turn_numbers : List ℕ → Turned → List ℕ
 turn_numbers ns t = held_after ns t.state t.answer

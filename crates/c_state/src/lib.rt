@@ -6,49 +6,24 @@ ghost use Rattle.std.specs.Prelude.{◌≡◌, length};
 ghost use Rattle.stores.specs.Stores.{filled};
 ghost use Rattle.c_state.specs.Kept.{stage_of, state_numbers, no_state, state_of, turn_answer, turn_numbers, fresh_answer, fresh_numbers};
 
-use build::{Answer, Builder, Stage, Turned};
+use build::{Builder, Stage, Turned};
 use facts::Facts;
 
 // The stage of a rank; past the last one nothing is taken any more.
+#[tactic(auto, unfolding(crate::specs::Kept::stage_of))]
 fn stage_of(rank: u32) -> Stage
     ensures { result ≡ stage_of rank }
 {
-    if rank == 0 {
-        return Stage::Fresh;
+    match rank {
+        0 => Stage::Fresh,
+        1 => Stage::Begun,
+        2 => Stage::Named,
+        3 => Stage::Alleles,
+        4 => Stage::Filtered,
+        5 => Stage::Infos,
+        6 => Stage::Formats,
+        _ => Stage::Ended,
     }
-    if rank == 1 {
-        return Stage::Begun;
-    }
-    if rank == 2 {
-        return Stage::Named;
-    }
-    if rank == 3 {
-        return Stage::Alleles;
-    }
-    if rank == 4 {
-        return Stage::Filtered;
-    }
-    if rank == 5 {
-        return Stage::Infos;
-    }
-    if rank == 6 {
-        return Stage::Formats;
-    }
-    Stage::Ended
-}
-
-// 256 numbers as an array.
-fn keys_of(part: &[u32]) -> [u32; 256]
-    requires { length part.now ≡ 256 }
-    ensures { result ≡ part.now }
-{
-    let mut keys = [0u32; 256];
-    let mut i = 0;
-    while i < 256 {
-        keys[i] = part[i];
-        i += 1;
-    }
-    keys
 }
 
 // A state that takes no turn.
@@ -73,6 +48,7 @@ fn no_state() -> Builder
 }
 
 // The state that 266 numbers hold; fewer hold one that takes no turn.
+#[tactic(auto, unfolding(crate::specs::Kept::state_of))]
 pub fn state_of(numbers: &[u32]) -> Builder
     ensures { result ≡ state_of numbers.now }
 {
@@ -86,6 +62,8 @@ pub fn state_of(numbers: &[u32]) -> Builder
         gt: numbers[3],
     };
     let stage = stage_of(numbers[9]);
+    let mut keys = [0u32; 256];
+    keys.copy_from_slice(&numbers[10..266]);
     Builder {
         facts,
         at: numbers[4],
@@ -94,24 +72,7 @@ pub fn state_of(numbers: &[u32]) -> Builder
         infos: (numbers[7] % 65536) as u16,
         formats: (numbers[8] % 256) as u8,
         stage,
-        keys: keys_of(&numbers[10..266]),
-    }
-}
-
-// Stores numbers at a place of a lent slice, where they have room.
-fn put_numbers(out: &mut [u32], at: usize, numbers: &[u32])
-    ensures { out.new ≡ filled out.old at numbers.now }
-{
-    if out.len() < at {
-        return;
-    }
-    if out.len() - at < numbers.len() {
-        return;
-    }
-    let mut i = 0;
-    while i < numbers.len() {
-        out[at + i] = numbers[i];
-        i += 1;
+        keys,
     }
 }
 
@@ -131,13 +92,13 @@ fn put_state(numbers: &mut [u32], state: Builder)
         state.facts.gt,
         state.at,
         state.border,
-        state.alleles as u32,
-        state.infos as u32,
-        state.formats as u32,
-        build::rank_of(stage) as u32,
+        u32::from(state.alleles),
+        u32::from(state.infos),
+        u32::from(state.formats),
+        u32::from(build::rank_of(stage)),
     ];
-    put_numbers(numbers, 0, &first);
-    put_numbers(numbers, 10, &keys);
+    c_answers::put_all(numbers, 0, &first);
+    c_answers::put_all(numbers, 10, &keys);
 }
 
 // Tells what a turn answered, the bytes written so far or its refusal, and stores the state after it; a refused one leaves the numbers as they
@@ -146,15 +107,17 @@ pub fn keep(numbers: &mut [u32], t: Turned) -> u64
     ensures told { result ≡ turn_answer t }
     ensures written { numbers.new ≡ turn_numbers numbers.old t }
 {
-    let answer = t.answer;
-    let Answer::Refused(r) = answer else {
-        put_state(numbers, t.state);
-        return c_answers::answer_of(0, t.state.at as usize);
-    };
-    c_answers::refused_answer(r)
+    match t.answer {
+        Ok(()) => {
+            put_state(numbers, t.state);
+            c_answers::answer_of(0, t.state.at as usize)
+        }
+        Err(r) => c_answers::refused_answer(r),
+    }
 }
 
 // Stores a fresh state, or tells 13 where it has no room and stores nothing.
+#[tactic(auto, unfolding(crate::specs::Kept::fresh_answer, crate::specs::Kept::fresh_numbers))]
 pub fn put_fresh(numbers: &mut [u32]) -> u64
     ensures told { result ≡ fresh_answer (length numbers.old) }
     ensures written { numbers.new ≡ fresh_numbers numbers.old }

@@ -3,24 +3,26 @@
 use mathlib.Core.Path.{◌≡◌, refl, sym, ◌∙◌}
 use mathlib.Core.List.{List, [], ◌∷◌, ◌++◌}
 use mathlib.Core.Bool.{Bool, true, false}
-use Prim.Native.Nat.{ℕ, zero, suc, ◌+◌, ◌-◌, ◌*◌, ◌/◌, ◌<◌, ◌≤◌}
+use Prim.Native.Nat.{ℕ, zero, suc, ◌+◌, ◌*◌, ◌/◌, ◌<◌, ◌≤◌}
 use native.Mathlib.Omega.{arith}
-use native.Mathlib.Numerals.{sub-one}
-use native.Mathlib.Nat.{add_assoc, add_comm, add-zero, le_of_suc-le-suc, suc-add, suc-mul, zero-add, zero-mul}
+use native.Mathlib.Nat.{add_comm, add-zero, div-le_self, div-mul-le_self, le_of_suc-le-suc, suc-add, suc-mul, zero-add, zero-mul}
 use lib.Dec.{eqb, ltb}
-use lib.ListN.{drop, get_or, length}
+use lib.ListN.{drop, get_or, length, length-append, length-map, take}
 use lib.Seq.{drop-drop}
-use borrow.Author.Tests.{lt-ltb, ltb-true, ltb-false}
+use borrow.Author.Tests.{eq-eqb, eqb-false, eqb-true, lt-ltb, ltb-true, ltb-false, ne_eqb}
+use Rattle.std.specs.Int.{from_bool}
+use Rattle.std.proofs.lemmas.List.{take_more}
 use Rattle.words.specs.Pick.{pick}
 use Rattle.types.specs.Rows.{width_of}
 use Rattle.types.specs.Elements.{kind, marked}
-use Rattle.types.specs.declared.Element.TheVariants.{Plain}
+use Rattle.types.specs.declared.Element.{Element}
+use Rattle.types.specs.declared.Element.TheVariants.{Plain, Missing, End, Reserved}
 use Rattle.vectors.specs.Vectors.{numbers}
-use Rattle.vectors.proofs.Plain.{byte_at, width_1}
-use Rattle.calls.specs.Calls.{slots, alleles, people, called, without, no_slot, how_many, counters, AtMost}
-use Rattle.calls.specs.Engine.{halves, raised}
+use Rattle.vectors.proofs.Plain.{elements_fit, width_1}
+use Rattle.calls.specs.Calls.{before, slots, alleles, people, called, without, no_slot, how_many, counters, AtMost}
+use Rattle.calls.specs.Engine.{every, everyone, halves, raised}
 use Rattle.calls.specs.Totals.{total, sums}
-use Rattle.calls.proofs.Counters.{how_many_miss}
+use Rattle.calls.proofs.Counters.{how_many_append, how_many_miss, wider}
 use Rattle.calls.proofs.Laws.{counted_once, none_counted}
 use Rattle.calls.proofs.Turns.{alleles_cons}
 
@@ -28,12 +30,29 @@ use Rattle.calls.proofs.Turns.{alleles_cons}
 pub one_wide : (t at n m : ℕ) → t ≡ 1 → at + n * width_of t ≤ m → at + n * 1 ≤ m
 one_wide t at n m e h = rw (e, width_1) at h
 
--- one turn of counting the elements whose half is k
-pub half_turn : (s : List ℕ) (k n at c r : ℕ) → 0 < n → r ≡ pick (eqb k (get_or s at 0 / 2)) 1 0
-    → c + how_many k (halves (numbers 1 n (drop at s))) ≡ c + r + how_many k (halves (numbers 1 (n - 1) (drop (at + 1) s)))
-unfolding how_many halves numbers
-half_turn s k zero at c r h e = absurd (omega arith)
-half_turn s k (suc n) at c r h e = rw (e, byte_at s at, sub-one, drop-drop 1 at s, add_assoc)
+-- one turn of counting the numbers that are k
+one : (k x : ℕ) → how_many k (x ∷ []) ≡ from_bool (eqb x k)
+unfolding how_many
+one k x = by-test (eqb x k) refl
+  where
+    by-test : (b : Bool) → eqb x k ≡ b → pick (eqb k x) 1 0 + 0 ≡ from_bool b
+    by-test true q = let h : k ≡ x = sym (eqb-true _ _ q) in rw (eq-eqb k x h)
+    by-test false q = rw (ne_eqb k x (λ h. eqb-false _ _ q (sym h)))
+
+pub count_turn : (xs : List ℕ) (k i c r : ℕ) → i < length xs → c ≡ how_many k (take i xs) → r ≡ from_bool (eqb (get_or xs i 0) k)
+    → c + r ≡ how_many k (take (i + 1) xs)
+count_turn xs k i c r h e q = sym (rw (take_more xs i 0 h, how_many_append, one, e, q))
+
+pub get_or_halves : (xs : List ℕ) (i : ℕ) → get_or (halves xs) i 0 ≡ get_or xs i 0 / 2
+unfolding halves
+get_or_halves [] i = omega arith
+get_or_halves (x ∷ xs) zero = refl
+get_or_halves (x ∷ xs) (suc i) = get_or_halves xs i
+
+pub length_halved : (xs : List ℕ) → length (halves xs) ≡ length xs
+unfolding halves
+length_halved [] = refl
+length_halved (x ∷ xs) = rw (length_halved xs)
 
 -- numbers and their halves, one list after the other
 numbers_append : (w a b : ℕ) (l : List ℕ) → numbers w (a + b) l ≡ numbers w a l ++ numbers w b (drop (a * w) l)
@@ -173,14 +192,56 @@ raised_within m k [] xs b j = omega arith
 raised_within m k (c ∷ cs) xs b zero = let g = b 0 in omega (arith, how_many_most k xs)
 raised_within m k (c ∷ cs) xs b (suc j) = raised_within m (suc k) cs xs (λ i. b (suc i)) j
 
--- people counted by the halves of their elements, where every one is counted: none is without a slot, the first counters are raised
--- by what all of them are called, and none by more than their elements
-pub few_block : (m : ℕ) (l cs fs : List ℕ) (len n : ℕ) → 0 < len → 4 ≤ length cs → AtMost m cs
+pub length_numbers : (w n : ℕ) (l : List ℕ) → length (numbers w n l) ≡ n
+unfolding numbers
+length_numbers w zero l = refl
+length_numbers w (suc n) l = rw (length_numbers w n (drop w l))
+
+-- no person has more slots than elements, which have a byte each at least: so no counter is raised by more than the bytes
+slots_most : (t : ℕ) (xs : List ℕ) → length (slots t xs) ≤ length xs
+unfolding slots
+slots_most t [] = omega arith
+slots_most t (x ∷ xs) = by_kind (kind t x) (slots_most t xs)
+  where
+    by_kind : (k : Element) → length (slots t xs) ≤ length xs → length (before k x (slots t xs)) ≤ suc (length xs)
+    by_kind End h = omega arith
+    by_kind Missing h = omega arith
+    by_kind Plain h = omega arith
+    by_kind Reserved h = omega arith
+
+alleles_most : (t : ℕ) (xs : List ℕ) → length (alleles t xs) ≤ length xs
+unfolding alleles
+alleles_most t xs = rw length-map (slots_most t xs)
+
+called_most : (t w len n : ℕ) (l : List ℕ) → length (called t (people w len n l)) ≤ n * len
+unfolding called people
+called_most t w len zero l = omega arith
+called_most t w len (suc n) l =
+    let r = called_most t w len n (drop (len * w) l) in
+    let a = rw length_numbers at (alleles_most t (numbers w len l)) in
+    rw length-append (omega (arith, suc-mul n len))
+
+pub person_within : (m t w : ℕ) (cs x : List ℕ) → AtMost m cs → AtMost (m + length x) (raised 0 cs (alleles t (every w x)))
+unfolding every
+person_within m t w cs x b =
+    let a = rw length_numbers at (alleles_most t (numbers w (length x / w) x)) in
+    wider _ _ (raised 0 cs (alleles t (numbers w (length x / w) x))) (omega (arith, div-le_self (length x) w))
+    (raised_within m 0 cs (alleles t (numbers w (length x / w) x)) b)
+
+pub block_within : (m t w len : ℕ) (cs l : List ℕ) → 0 < w → AtMost m cs → AtMost (m + length l) (raised 0 cs (called t (everyone w len l)))
+unfolding everyone
+block_within m t w len cs l p b =
+    let n = length l / (len * w) in
+    let h : n * (len * w) ≤ length l = div-mul-le_self (length l) (len * w) in
+    wider _ _ (raised 0 cs (called t (people w len n l))) (omega (arith, elements_fit n len w (length l) p h, called_most t w len n l))
+    (raised_within m 0 cs (called t (people w len n l)) b)
+
+-- people counted by the halves of their elements, where every one is counted: none is without a slot, and the first counters are raised
+-- by what all of them are called
+pub few_block : (l cs fs : List ℕ) (len n : ℕ) → 0 < len → 4 ≤ length cs
     → fs ≡ counters 4 0 (halves (numbers 1 (n * len) l)) → total fs ≡ n * len
-    → (0 ≡ without 1 (people 1 len n l)) × (sums cs fs ≡ raised 0 cs (called 1 (people 1 len n l))) × AtMost (m + n * len) (sums cs fs)
-few_block m l cs fs len n h g b e q =
+    → (0 ≡ without 1 (people 1 len n l)) × (sums cs fs ≡ raised 0 cs (called 1 (people 1 len n l)))
+few_block l cs fs len n h g e q =
     let k = length_halves 1 (n * len) l in
     let a : AtMost 3 (halves (numbers 1 (n * len) l)) = all_counted 3 _ ((rw e at q) ∙ sym k) in
-    let r : sums cs fs ≡ raised 0 cs (halves (numbers 1 (n * len) l)) = rw e (sums_raised 4 0 3 cs _ g (omega arith) a) in
-    let t = rw k at (raised_within m 0 cs (halves (numbers 1 (n * len) l)) b) in
-    (sym (few_without len n l h a), rw (few_called len n l a) r, rw r t)
+    (sym (few_without len n l h a), rw (e, few_called len n l a) (sums_raised 4 0 3 cs _ g (omega arith) a))

@@ -1,3 +1,4 @@
+pub mod Chunks
 pub mod Counters
 pub mod Examples
 pub mod Halves

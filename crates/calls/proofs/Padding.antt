@@ -3,13 +3,13 @@
 use mathlib.Core.Path.{◌≡◌, refl, sym, ◌∙◌}
 use mathlib.Core.Logic.{◌⊎◌, inl, inr, ⊎_elim}
 use mathlib.Core.List.{List, [], ◌∷◌, ◌++◌}
-use mathlib.Core.Bool.{Bool, true, false}
-use Prim.Native.Nat.{ℕ, zero, suc, ◌+◌, ◌-◌, ◌*◌, ◌/◌, ◌<◌, ◌≤◌}
+use mathlib.Core.Bool.{Bool, true, false, ◌&&◌}
+use Prim.Native.Nat.{ℕ, zero, suc, ◌+◌, ◌*◌, ◌/◌, ◌%◌, ◌<◌, ◌≤◌}
 use native.Mathlib.Omega.{arith}
-use native.Mathlib.Numerals.{sub-one}
-use native.Mathlib.Nat.{add_assoc}
+use native.Mathlib.Nat.{add-zero, div-add-mod', mul_assoc, mul-one}
 use lib.Dec.{eqb, ltb}
-use lib.ListN.{drop, get_or, length, length-append}
+use lib.ListN.{drop, get_or, length, length-append, length-drop, length-take, take}
+use Rattle.std.proofs.lemmas.List.{get_or-drop, get_or-take, take-append-drop}
 use lib.Seq.{drop-drop}
 use borrow.Author.Tests.{eqb-true, eqb-false, ltb-true, ltb-false}
 use Rattle.words.specs.Pick.{pick}
@@ -17,12 +17,12 @@ use Rattle.words.specs.Words.{number}
 use Rattle.types.specs.Elements.{kind, marked}
 use Rattle.types.specs.declared.Element.TheVariants.{End}
 use Rattle.vectors.specs.Vectors.{numbers}
-use Rattle.vectors.proofs.Plain.{byte_at}
 use Rattle.calls.specs.Calls.{slots, alleles, people, called, without, no_slot, how_many, counters, AtMost}
-use Rattle.calls.specs.Engine.{halves, firsts_few, raised}
+use Rattle.calls.specs.Engine.{every, everyone, halves, firsts_few, raised}
 use Rattle.calls.specs.Totals.{total, sums}
-use Rattle.calls.proofs.Counters.{how_many_hit, how_many_miss, wider}
-use Rattle.calls.proofs.Halves.{counters_past, few_block, few_plain, no_alleles, none_found, raised_within, sums_raised}
+use Rattle.calls.proofs.Chunks.{every_bytes, everyone_cons, everyone_end, numbers_bytes}
+use Rattle.calls.proofs.Counters.{how_many_hit, how_many_miss}
+use Rattle.calls.proofs.Halves.{counters_past, few_block, few_plain, length_numbers, no_alleles, none_found, sums_raised}
 use Rattle.calls.proofs.Laws.{counted_once, counters_append, none_counted}
 use Rattle.calls.proofs.Turns.{alleles_cons}
 
@@ -122,11 +122,6 @@ two_more : (n : ℕ) (l : List ℕ) → numbers 1 (suc n * 2) l ≡ number 1 l �
 unfolding numbers
 two_more n l = let e : suc n * 2 ≡ suc (suc (n * 2)) = omega arith in rw (e, drop-drop 1 1 l)
 
-length_numbers : (w n : ℕ) (l : List ℕ) → length (numbers w n l) ≡ n
-unfolding numbers
-length_numbers w zero l = refl
-length_numbers w (suc n) l = rw (length_numbers w n (drop w l))
-
 -- what is claimed of people of two elements, given with their elements
 abbrev pub Counts : List (List ℕ) → List ℕ → Type 0
 Counts ps xs = (counters 4 0 (called 1 ps) ≡ counters 4 0 (halves xs)) × AtMost 3 (called 1 ps) × (without 1 ps ≡ 0) × (length (called 1 ps) ≤ length xs)
@@ -157,40 +152,58 @@ padded_counts (suc n) l a f =
     rw (two_more n l) (counts_more (number 1 l) (number 1 (drop 1 l)) (people 1 2 n (drop 2 l)) (numbers 1 (n * 2) (drop 2 l)) p.0 t.1.0 (padded_counts n (drop 2 l) t.1.1 p.1))
 
 -- a block of people of two elements, all told, each with a slot first
-padded_block : (m : ℕ) (l cs fs : List ℕ) (n : ℕ) → 4 ≤ length cs → AtMost m cs → fs ≡ counters 4 0 (halves (numbers 1 (n * 2) l))
+padded_block : (l cs fs : List ℕ) (n : ℕ) → 4 ≤ length cs → fs ≡ counters 4 0 (halves (numbers 1 (n * 2) l))
     → AllTold (numbers 1 (n * 2) l) → firsts_few (people 1 2 n l) ≡ true
-    → (0 ≡ without 1 (people 1 2 n l)) × (sums cs fs ≡ raised 0 cs (called 1 (people 1 2 n l))) × AtMost (m + n * 2) (sums cs fs)
-padded_block m l cs fs n g b e a f =
+    → (0 ≡ without 1 (people 1 2 n l)) × (sums cs fs ≡ raised 0 cs (called 1 (people 1 2 n l)))
+padded_block l cs fs n g e a f =
     let p = padded_counts n l a f in
-    let k = length_numbers 1 (n * 2) l in
-    let r : sums cs fs ≡ raised 0 cs (called 1 (people 1 2 n l)) = rw (e, ← p.0) (sums_raised 4 0 3 cs _ g (omega arith) p.1) in
-    (sym p.2, r, rw r (wider _ _ (raised 0 cs (called 1 (people 1 2 n l))) (omega (arith, p.3, k)) (raised_within m 0 cs (called 1 (people 1 2 n l)) b)))
+    (sym p.2, rw (e, ← p.0) (sums_raised 4 0 3 cs _ g (omega arith) p.1))
 
--- a block of people of whom every element is told, and ends of vector are padding: none is without a slot, the first counters are raised by
--- what all of them are called, and none by more than their elements
-pub told_block : (m : ℕ) (l cs fs : List ℕ) (len n k : ℕ) → 0 < len → 4 ≤ length cs → AtMost m cs
+-- a block of people of whom every element is told, and ends of vector are padding: none is without a slot, and the first counters are raised by
+-- what all of them are called
+people_block : (l cs fs : List ℕ) (len n k : ℕ) → 0 < len → 4 ≤ length cs
     → fs ≡ counters 4 0 (halves (numbers 1 (n * len) l)) → k ≡ how_many 0x81 (numbers 1 (n * len) l) → total fs + k ≡ n * len
     → (k ≡ 0) ⊎ ((len ≡ 2) × (firsts_few (people 1 2 n l) ≡ true))
-    → (0 ≡ without 1 (people 1 len n l)) × (sums cs fs ≡ raised 0 cs (called 1 (people 1 len n l))) × AtMost (m + n * len) (sums cs fs)
-told_block m l cs fs len n k h g b e d q (inl z) = few_block m l cs fs len n h g b e (omega arith)
-told_block m l cs fs len n k h g b e d q (inr v) =
+    → (0 ≡ without 1 (people 1 len n l)) × (sums cs fs ≡ raised 0 cs (called 1 (people 1 len n l)))
+people_block l cs fs len n k h g e d q (inl z) = few_block l cs fs len n h g e (omega arith)
+people_block l cs fs len n k h g e d q (inr v) =
     let a : told (numbers 1 (n * len) l) ≡ length (numbers 1 (n * len) l) = counted-told ∙ sym (length_numbers 1 (n * len) l) in
-    rw v.0 (padded_block m l cs fs n g b (rw v.0 at e) (all_told _ (rw v.0 at a)) v.1)
+    rw v.0 (padded_block l cs fs n g (rw v.0 at e) (all_told _ (rw v.0 at a)) v.1)
   where
     counted-told : told (numbers 1 (n * len) l) ≡ n * len
     counted-told = told_is (numbers 1 (n * len) l) ∙ rw (← e, ← d) q
 
--- one turn of the sweep: the ends of vector
-pub end_turn : (s : List ℕ) (n at c r : ℕ) → 0 < n → r ≡ pick (eqb 0x81 (get_or s at 0)) 1 0
-    → c + how_many 0x81 (numbers 1 n (drop at s)) ≡ c + r + how_many 0x81 (numbers 1 (n - 1) (drop (at + 1) s))
-unfolding how_many numbers
-end_turn s zero at c r h e = absurd (omega arith)
-end_turn s (suc n) at c r h e = rw (e, byte_at s at, sub-one, drop-drop 1 at s, add_assoc)
+pub told_block : (l cs fs : List ℕ) (len k : ℕ) → 0 < len → 4 ≤ length cs → length l % (len * 1) ≡ 0
+    → fs ≡ counters 4 0 (halves l) → k ≡ how_many 0x81 l → total fs + k ≡ length l
+    → (k ≡ 0) ⊎ ((len ≡ 2) × (firsts_few (everyone 1 2 l) ≡ true))
+    → (0 ≡ without 1 (everyone 1 len l)) × (sums cs fs ≡ raised 0 cs (called 1 (everyone 1 len l)))
+unfolding everyone
+told_block l cs fs len k h g z e d q p =
+    let n = length l / (len * 1) in
+    let w : n * len ≡ length l = omega (arith, div-add-mod' (length l) (len * 1), mul_assoc n len 1, mul-one (n * len)) in
+    let b : numbers 1 (n * len) l ≡ l = rw w (numbers_bytes l) in
+    people_block l cs fs len n k h g (rw b e) (rw b d) (rw w q) (same p)
+  where
+    same : (k ≡ 0) ⊎ ((len ≡ 2) × (firsts_few (people 1 2 (length l / (2 * 1)) l) ≡ true))
+        → (k ≡ 0) ⊎ ((len ≡ 2) × (firsts_few (people 1 2 (length l / (len * 1)) l) ≡ true))
+    same (inl z) = inl z
+    same (inr v) = inr (v.0, rw v.0 v.1)
 
 -- one turn of the sweep over first elements
-pub firsts_turn : (s : List ℕ) (n at : ℕ) (b : Bool) → 0 < n
-    → pick b (firsts_few (people 1 2 n (drop at s))) false ≡ pick (pick b (ltb (get_or s at 0) 8) false) (firsts_few (people 1 2 (n - 1) (drop (at + 2) s))) false
-unfolding firsts_few people numbers
-firsts_turn s zero at b h = absurd (omega arith)
-firsts_turn s (suc n) at true h = rw (sub-one, byte_at s at, drop-drop 2 at s)
-firsts_turn s (suc n) at false h = refl
+pub firsts_turn : (s : List ℕ) (i : ℕ) (b : Bool) → i < length s / 2
+    → pick b (firsts_few (everyone 1 2 (drop (i * 2) s))) false
+    ≡ pick (b && ltb (get_or s (i * 2) 0) 8) (firsts_few (everyone 1 2 (drop ((i + 1) * 2) s))) false
+unfolding firsts_few
+firsts_turn s i true h =
+    let l = drop (i * 2) s in
+    let n : length (take 2 l) ≡ 2 = rw (length-take, length-drop) (omega arith) in
+    let r : drop 2 l ≡ drop ((i + 1) * 2) s = rw drop-drop (let e : i * 2 + 2 ≡ (i + 1) * 2 = omega arith in rw e) in
+    let x : get_or (take 2 l) 0 0 ≡ get_or s (i * 2) 0 = get_or-take 2 l 0 0 (omega arith) ∙ get_or-drop (i * 2) s 0 0 ∙ rw add-zero in
+    let e : everyone 1 2 l ≡ every 1 (take 2 l) ∷ everyone 1 2 (drop ((i + 1) * 2) s) =
+    rw r at (rw take-append-drop at (everyone_cons 1 2 (take 2 l) (drop 2 l) (omega arith) (omega arith) n)) in
+    rw (e, every_bytes, x)
+firsts_turn s i false h = refl
+
+pub firsts_end : (s : List ℕ) → length s < 2 → firsts_few (everyone 1 2 s) ≡ true
+unfolding firsts_few
+firsts_end s h = rw (everyone_end 1 2 s h)

@@ -1,9 +1,11 @@
 -- Counters kept as pairs: their sums, after a store and at each place. Rests on specs/Engine.
-use mathlib.Core.Path.{◌≡◌, refl, sym}
+use mathlib.Core.Path.{◌≡◌, refl, sym, ◌∙◌}
+use mathlib.Core.Logic.{◌≢◌}
 use mathlib.Core.List.{List, [], ◌∷◌}
 use Prim.Native.Nat.{ℕ, zero, suc, ◌+◌, ◌*◌, ◌%◌, ◌<◌, ◌≤◌}
 use native.Mathlib.Omega.{arith}
 use lib.ListN.{length, get_or, set}
+use Rattle.std.proofs.lemmas.List.{get_or-set_other}
 use Rattle.calls.specs.Engine.{folded}
 use Rattle.calls.specs.Totals.{sums}
 
@@ -55,9 +57,26 @@ unfolding sums
 sums_none [] = refl
 sums_none (c ∷ cs) = refl
 
+-- a counter raised
+abbrev pub raise : List ℕ → ℕ → ℕ → List ℕ
+raise cs i n = set cs i (get_or cs i 0 + n)
+
+-- those of further pairs are as they were
+pub raise_reads : (cs : List ℕ) (a b c : ℕ)
+    → (get_or (raise cs 0 a) 2 0 ≡ get_or cs 2 0) × (get_or (raise (raise cs 0 a) 2 b) 4 0 ≡ get_or cs 4 0)
+    × (get_or (raise (raise (raise cs 0 a) 2 b) 4 c) 6 0 ≡ get_or cs 6 0)
+raise_reads cs a b c = (
+  other cs 0 2 a (λ e. omega arith),
+  other (raise cs 0 a) 2 4 b (λ e. omega arith) ∙ other cs 0 4 a (λ e. omega arith),
+  other (raise (raise cs 0 a) 2 b) 4 6 c (λ e. omega arith) ∙ other (raise cs 0 a) 2 6 b (λ e. omega arith) ∙ other cs 0 6 a (λ e. omega arith),
+)
+  where
+    other : (cs : List ℕ) (i j n : ℕ) → j ≢ i → get_or (raise cs i n) j 0 ≡ get_or cs j 0
+    other cs i j n h = get_or-set_other cs i j (get_or cs i 0 + n) 0 h
+
 -- the first counter of each of four pairs raised raises the first four sums
 pub folded_four : (cs : List ℕ) (a b c d : ℕ) → 8 ≤ length cs
-    → folded (set (set (set (set cs 0 (get_or cs 0 0 + a)) 2 (get_or cs 2 0 + b)) 4 (get_or cs 4 0 + c)) 6 (get_or cs 6 0 + d)) ≡ sums (folded cs) (a ∷ b ∷ c ∷ d ∷ [])
+    → folded (raise (raise (raise (raise cs 0 a) 2 b) 4 c) 6 d) ≡ sums (folded cs) (a ∷ b ∷ c ∷ d ∷ [])
 unfolding folded sums
 folded_four [] a b c d h = absurd (omega arith)
 folded_four (p ∷ []) a b c d h = absurd (omega arith)

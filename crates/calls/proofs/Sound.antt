@@ -13,15 +13,15 @@ use Rattle.types.specs.Elements.{kind}
 use Rattle.types.specs.declared.Element.{Element}
 use Rattle.types.specs.declared.Element.TheVariants.{Plain, Missing, End, Reserved}
 use Rattle.vectors.specs.Sound.{code_most}
-use Rattle.vectors.specs.Vectors.{numbers, element_turn, follow, vector, and_then, vectors, judged}
+use Rattle.vectors.specs.Vectors.{numbers, element_turn, follow, vector, and_then, vectors, judged, Sound}
 use Rattle.values.specs.declared.Refusal.{Refusal}
-use Rattle.vectors.specs.declared.Judged.{Judged}
-use Rattle.vectors.specs.declared.Judged.TheVariants.{Sound, Refused as Unsound}
 use Rattle.vectors.proofs.Codes.{code_sound}
-use Rattle.calls.specs.Calls.{slots, alleles, people, called, without, AtMost, people_tally, people_of, counted}
+use Rattle.calls.specs.Calls.{slots, alleles, people, called, AtMost, people_tally, people_of, counted}
 use Rattle.calls.specs.Engine.{slotted}
 use Rattle.calls.specs.Totals.{total, slot_count, with_slots}
 use Rattle.calls.proofs.Turns.{calls, alleles_cons}
+use Rattle.std.specs.Prelude.{Err}
+use Rattle.values.specs.Answers.{Answer}
 use Rattle.calls.proofs.Laws.{people_tally_slots, with_and_without, length_people}
 
 -- a bound of a list is one of its first number and of the rest, and of two lists one after the other
@@ -34,12 +34,12 @@ at_most_append m [] ys a b = b
 at_most_append m (x ∷ xs) ys a b = at_most_cons m x (xs ++ ys) (a 0) (at_most_append m xs ys (λ j. a (suc j)) b)
 
 -- what is refused is not sound
-pub refused : {P : Type 0} (r : Refusal) → Unsound r ≡ Sound → P
+pub refused : {P : Type 0} (r : Refusal) → Err r ≡ Sound → P
 refused r h = let z : ◌≡◌ {A = ℕ} 0 1 = cc in absurd (omega arith)
 
-pub both_sound : (a b : Judged) → and_then a b ≡ Sound → (a ≡ Sound) × (b ≡ Sound)
+pub both_sound : (a b : Answer (Unit {0})) → and_then a b ≡ Sound → (a ≡ Sound) × (b ≡ Sound)
 both_sound Sound b h = (refl, h)
-both_sound (Unsound r) b h = refused r h
+both_sound (Err r) b h = refused r h
 
 -- the alleles of sound elements, whose codes are at most `most`
 vector_alleles : (most t w m at : ℕ) (e : Bool) (xs : List ℕ) → most / 2 ≤ m → vector most t w at e xs ≡ Sound → AtMost m (alleles t xs)

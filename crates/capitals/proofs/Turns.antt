@@ -1,11 +1,12 @@
 -- The length of a text, and one turn of the loop that stores it. Rests on specs/Capitals.
 use mathlib.Core.Path.{◌≡◌, refl}
-use mathlib.Core.List.{List, [], ◌∷◌}
+use mathlib.Core.List.{List, [], ◌∷◌, ◌++◌, append-nil}
 use Prim.Native.Nat.{ℕ, ◌+◌, ◌*◌, ◌/◌, ◌%◌, ◌<◌, ◌≤◌}
 use native.Mathlib.Omega.{arith}
-use native.Mathlib.Numerals.{add-one, add-two}
-use lib.ListN.{length, get_or, set, drop, drop_of_length-le}
-use lib.Seq.{sets, drop-cons}
+use native.Mathlib.Numerals.{add-one}
+use lib.ListN.{length, get_or, set, take, drop, length-set, drop_of_length-le}
+use lib.Seq.{drop-cons, take_all}
+use Rattle.words.proofs.Stores.{fill_turn}
 use Rattle.capitals.specs.Capitals.{capital, capitals}
 
 pub length_capitals : (bs : List ℕ) → length (capitals bs) ≡ length bs * 2
@@ -13,13 +14,18 @@ unfolding capitals
 length_capitals [] = refl
 length_capitals (b ∷ bs) = omega (arith, length_capitals bs)
 
--- the two characters of the next byte, and then the others
-pub capitals_turn : (buf : List ℕ) (o : ℕ) (part : List ℕ) (i : ℕ) → i < length part
-    → sets buf o (capitals (drop i part))
-    ≡ sets (set (set buf o (capital (get_or part i 0 / 16))) (o + 1) (capital (get_or part i 0 % 16))) (o + 2) (capitals (drop (i + 1) part))
+-- a text filled as far as a byte: the two characters of the next byte, and the end
+pub text_turn : (text part : List ℕ) (i : ℕ) → i < length part → length text ≡ 2 * length part
+    → take (2 * i) text ++ capitals (drop i part)
+    ≡ take (2 * (i + 1)) (set (set text (2 * i) (capital (get_or part i 0 / 16))) (2 * i + 1) (capital (get_or part i 0 % 16))) ++ capitals (drop (i + 1) part)
 unfolding capitals
-capitals_turn buf o part i h = rw (drop-cons part i 0 h, add-one i, add-one o, add-two o)
+text_turn text part i h e =
+    let x = capital (get_or part i 0 / 16) in
+    let y = capital (get_or part i 0 % 16) in
+    let k : 2 * (i + 1) ≡ 2 * i + 1 + 1 = omega arith in
+    let one : 2 * i + 1 < length (set text (2 * i) x) = rw length-set (omega arith) in
+    rw (k, fill_turn (set text (2 * i) x) (2 * i + 1) y _ one, fill_turn text (2 * i) x _ (omega arith), drop-cons part i 0 h, add-one i)
 
-pub capitals_end : (buf : List ℕ) (o : ℕ) (part : List ℕ) (i : ℕ) → length part ≤ i → sets buf o (capitals (drop i part)) ≡ buf
+pub text_end : (text part : List ℕ) (i : ℕ) → length part ≤ i → length text ≡ 2 * length part → take (2 * i) text ++ capitals (drop i part) ≡ text
 unfolding capitals
-capitals_end buf o part i h = rw (drop_of_length-le part {i = i} h)
+text_end text part i h e = rw (drop_of_length-le part {i = i} h, append-nil, take_all (2 * i) text (omega arith))

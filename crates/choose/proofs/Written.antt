@@ -1,4 +1,5 @@
 -- What is stored piece by piece is the chosen fields, and the chosen record, stored. Rests on specs/Chosen and on stores.
+use Rattle.std.specs.Prelude.{Ok}
 use mathlib.Core.Path.{◌≡◌, ◌∙◌, refl, sym, ap}
 use mathlib.Core.List.{List, [], ◌∷◌, ◌++◌, append_assoc}
 use mathlib.Core.Bool.{true}
@@ -16,8 +17,8 @@ use Rattle.types.specs.Rows.{width_of}
 use Rattle.types.specs.declared.Use.TheVariants.{Format}
 use Rattle.fixed.specs.Layout.{indiv_at, people_at, id_at, members_of}
 use Rattle.fixed.specs.declared.Site.{Site}
+use Rattle.fetch.specs.declared.Found.{Found}
 use Rattle.fetch.specs.Fields.{paired}
-use Rattle.fetch.specs.declared.Found.TheVariants.{Field}
 use Rattle.fetch_laws.proofs.Present.{paired_stop}
 use Rattle.stores.specs.Stores.{filled}
 use Rattle.stores.proofs.Inside.{sets_inside}
@@ -38,35 +39,36 @@ kept_some [] formats h = absurd (h refl)
 kept_some (c ∷ cs) formats h = refl
 
 -- a field's key and descriptor, and then the parts
-pub head_stored : (buf block parts : List ℕ) (o at place : ℕ) → at ≤ place → place ≤ length block → o + (place - at) ≤ length buf
-    → sets (filled buf o (take (place - at) (drop at block))) (o + (place - at)) parts ≡ sets buf o (take (place - at) (drop at block) ++ parts)
-head_stored buf block parts o at place h e r =
-    let len : length (take (place - at) (drop at block)) ≡ place - at = length_part block at place h e in
-    let f = filled_room buf o (take (place - at) (drop at block)) (rw len r) in
-    rw (f, sets_append (take (place - at) (drop at block)) parts buf o, len)
+pub head_stored : (buf head parts : List ℕ) (o : ℕ) → o + length head ≤ length buf
+    → sets (filled buf o head) (o + length head) parts ≡ sets buf o (head ++ parts)
+head_stored buf head parts o r = rw (filled_room buf o head r, sets_append head parts buf o)
 
 -- everybody's parts end where the field does
-pub parts_stop : (people n at : ℕ) (l : List ℕ) {key t first stop : ℕ} → paired people Format at l ≡ Field key t n first stop
-    → first + people * (n * width_of t) ≡ stop
-parts_stop people n at l {t = t} h = let e = paired_stop people Format at l h in let q = mul_assoc people n (width_of t) in omega arith
+pub parts_stop : (people at : ℕ) (l : List ℕ) {x : Found} → paired people Format at l ≡ Ok x
+    → x.place + people * (x.len * width_of x.code) ≡ x.stop
+parts_stop people at l {x = x} h =
+    let e = paired_stop people Format at l h in
+    let q = mul_assoc people x.len (width_of x.code) in
+    omega arith
 
 -- the next field stored, and then the others
-pub field_stored : (buf : List ℕ) (o people : ℕ) (cs : List ℕ) (n at : ℕ) (s : List ℕ) {key t len first stop : ℕ} → ascending people cs ≡ true → 0 < n
-    → paired people Format at (drop at s) ≡ Field key t len first stop → at ≤ first → first ≤ stop → stop ≤ length s
+pub field_stored : (buf : List ℕ) (o people : ℕ) (cs : List ℕ) (n at : ℕ) (s : List ℕ) {x : Found} → ascending people cs ≡ true → 0 < n
+    → paired people Format at (drop at s) ≡ Ok x → at ≤ x.place → x.place ≤ x.stop → x.stop ≤ length s
     → sets buf o (chosen_fields people cs n at (drop at s))
-    ≡ sets (sets buf o (take (first - at) (drop at s) ++ chosen_parts (len * width_of t) cs (drop first s))) (o + (first - at + length cs * (len * width_of t)))
-    (chosen_fields people cs (n - 1) stop (drop stop s))
-field_stored buf o people cs n at s {t = t} {len = len} {first = first} {stop = stop} asc z h e r q =
-    let head = take (first - at) (drop at s) in
-    let parts = chosen_parts (len * width_of t) cs (drop first s) in
-    let rest = chosen_fields people cs (n - 1) stop (drop stop s) in
-    let st = parts_stop people len at (drop at s) h in
-    let room : people * (len * width_of t) ≤ length (drop first s) = rw length-drop (omega arith) in
-    let size : length (head ++ parts) ≡ first - at + length cs * (len * width_of t) =
-    length-append head parts ∙ rw (length_part s at first e (omega arith), length_chosen_parts (len * width_of t) 0 people cs (drop first s) asc room) in
+    ≡ sets (sets buf o (take (x.place - at) (drop at s) ++ chosen_parts (x.len * width_of x.code) cs (drop x.place s)))
+    (o + (x.place - at + length cs * (x.len * width_of x.code))) (chosen_fields people cs (n - 1) x.stop (drop x.stop s))
+field_stored buf o people cs n at s {x = x} asc z h e r q =
+    let size = x.len * width_of x.code in
+    let head = take (x.place - at) (drop at s) in
+    let parts = chosen_parts size cs (drop x.place s) in
+    let rest = chosen_fields people cs (n - 1) x.stop (drop x.stop s) in
+    let st = parts_stop people at (drop at s) h in
+    let room : people * size ≤ length (drop x.place s) = rw length-drop (omega arith) in
+    let long : length (head ++ parts) ≡ x.place - at + length cs * size =
+    length-append head parts ∙ rw (length_part s at x.place e (omega arith), length_chosen_parts size 0 people cs (drop x.place s) asc room) in
     let turn = fields_turn people cs n at s z h e r in
     ap (sets buf o) (turn ∙ sym (append_assoc head parts rest)) ∙ sets_append (head ++ parts) rest buf o
-    ∙ ap (λ (k : ℕ). sets (sets buf o (head ++ parts)) (o + k) rest) size
+    ∙ ap (λ (k : ℕ). sets (sets buf o (head ++ parts)) (o + k) rest) long
 
 -- the site block, the two numbers in it and the genotype block, stored one after the other, are the chosen record stored
 pub record_stored : (buf s : List ℕ) (t : Site) (cs : List ℕ) → id_at ≤ t.border → t.border ≤ length s

@@ -1,7 +1,7 @@
 -- The chosen record: it changes l_indiv and the people count, and keeps each chosen person's elements at their width, in order.
 -- Keys, descriptors and all other site bytes stay. An empty choice also drops every FORMAT field and sets their count to 0.
 -- Rests on the choice, on the layout, and on fetch's FORMAT field at the front of a list.
-use Rattle.std.specs.Prelude.{ℕ, zero, suc, ◌+◌, ◌-◌, ◌*◌, List, [], ◌∷◌, ◌++◌, length, take, drop}
+use Rattle.std.specs.Prelude.{ℕ, zero, suc, ◌-◌, ◌*◌, List, [], ◌∷◌, ◌++◌, length, take, drop, Err, Ok}
 use Rattle.std.proofs.lemmas.List.Edits.{sets}
 use Rattle.words.specs.Words.{bytes}
 use Rattle.types.specs.Rows.{width_of}
@@ -10,14 +10,14 @@ use Rattle.fixed.specs.Layout.{indiv_at, people_at, members_of}
 use Rattle.fixed.specs.declared.Site.{Site}
 use Rattle.fetch.specs.Fields.{paired}
 use Rattle.fetch.specs.declared.Found.{Found}
-use Rattle.fetch.specs.declared.Found.TheVariants.{Field, Refused}
+use Rattle.values.specs.Answers.{Answer}
 use Rattle.choice.specs.Choice.{chosen_parts}
 
 -- a FORMAT field before the rest of the block: its key and descriptor as they stand, then the chosen people's elements
-abbrev pub chosen_field : List ℕ → ℕ → List ℕ → (ℕ → List ℕ → List ℕ) → Found → List ℕ
-chosen_field cs at l rest (Refused r) = []
-chosen_field cs at l rest (Field key t n first stop) =
-    take (first - at) l ++ (chosen_parts (n * width_of t) cs (drop (first - at) l) ++ rest stop (drop (stop - at) l))
+abbrev pub chosen_field : List ℕ → ℕ → List ℕ → (ℕ → List ℕ → List ℕ) → Answer Found → List ℕ
+chosen_field cs at l rest (Err r) = []
+chosen_field cs at l rest (Ok x) =
+    take (x.place - at) l ++ (chosen_parts (x.len * width_of x.code) cs (drop (x.place - at) l) ++ rest x.stop (drop (x.stop - at) l))
 
 -- so many FORMAT fields at the front of a list
 unfoldable pub chosen_fields : ℕ → List ℕ → ℕ → ℕ → List ℕ → List ℕ

@@ -16,30 +16,6 @@ use fixed::Site;
 use record::Reading;
 use values::Refusal;
 
-// The chosen record's length, or the refusal.
-#[derive(Clone, Copy)]
-pub enum Choosing {
-    Chosen(usize),
-    Refused(Refusal),
-}
-
-// A person number as a place: with it a product asks for no bound of its own.
-fn wide(c: u32) -> usize
-    ensures { (result ≡ c) × (result < 2 ^ 32) }
-{
-    c as usize
-}
-
-// The lesser of two numbers.
-fn lesser(a: usize, b: usize) -> usize
-    ensures { (result ≤ a) × (result ≤ b) }
-{
-    if a < b {
-        return a;
-    }
-    b
-}
-
 // How many people of the choice from a place on are neighbours, looking at most at so many: since a choice ascends, they are where the
 // last is as far above the first as it stands behind it.
 fn stretch(choice: &[u32], i: usize, most: usize) -> usize
@@ -47,86 +23,84 @@ fn stretch(choice: &[u32], i: usize, most: usize) -> usize
     ensures result_nonzero { (0 < result) × (i + result ≤ length choice.now) }
     ensures result_value { get_or choice.now (i + (result - 1)) 0 ≡ get_or choice.now i 0 + (result - 1) }
 {
-    let mut k = lesser(most, choice.len() - i);
+    let mut k = most.min(choice.len() - i);
+    // Half as many are looked at where so many are no neighbours.
     while 1 < k {
-        if wide(choice[i + (k - 1)]) == wide(choice[i]) + (k - 1) {
+        if choice[i + (k - 1)] as usize == choice[i] as usize + (k - 1) {
             return k;
         }
-        k = k / 2;
+        k /= 2;
     }
     1
 }
 
-// Stores the parts of the chosen people, each of `size` bytes, at a place of the buffer, neighbours in one go.
-fn put_people(buf: &mut [u8], at: usize, parts: &[u8], size: usize, choice: &[u32], people: u32)
-    requires { (ascending people choice.now ≡ true) × (people * size ≤ length parts.now) × (at + length choice.now * size ≤ length buf.old) }
-    ensures { buf.new ≡ sets buf.old at (chosen_parts size choice.now parts.now) }
-{
-    let mut o = at;
-    let mut i = 0;
-    let mut most = 1;
-    while i < choice.len() {
-        let k = stretch(choice, i, most);
-        let first = wide(choice[i]) * size;
-        let n = k * size;
-        stores::put(buf, o, &parts[first..first + n]);
-        o += n;
-        i += k;
-        most = lesser(k, 65536) * 2;
+// The people who are kept, out of so many: a choice, which ascends.
+#[derive(Clone, Copy)]
+struct Kept<'a> {
+    choice: &'a [u32],
+    people: u32,
+    ghost ascends: { ascending people choice.now ≡ true },
+}
+
+impl<'a> Kept<'a> {
+    // Stores their parts, each of `size` bytes, at a place of the buffer, neighbours in one go.
+    #[tactic(auto, unfolding(choice::specs::Choice::chosen_parts))]
+    fn put_parts(&self, buf: &mut [u8], at: usize, parts: &[u8], size: usize)
+        requires { (self.now.people * size ≤ length parts.now) × (at + length self.now.choice.now * size ≤ length buf.old) }
+        ensures { buf.new ≡ sets buf.old at (chosen_parts size self.now.choice.now parts.now) }
+    {
+        let choice = self.choice;
+        let mut o = at;
+        let mut i = 0;
+        let mut most = 1;
+        // Each turn goes as far as the stretch that it finds.
+        while i < choice.len() {
+            let k = stretch(choice, i, most);
+            let first = choice[i] as usize * size;
+            let n = k * size;
+            stores::put(buf, o, &parts[first..first + n]);
+            o += n;
+            i += k;
+            most = k.min(65536) * 2;
+        }
     }
-}
 
-// Stores a FORMAT field at a place of the buffer: its key and descriptor as they stand, and the chosen people's elements.
-fn put_field(
-    buf: &mut [u8],
-    o: usize,
-    block: &[u8],
-    at: usize,
-    place: usize,
-    size: usize,
-    choice: &[u32],
-    people: u32,
-)
-    requires { (ascending people choice.now ≡ true) × (at ≤ place) × (place + people * size ≤ length block.now) × (o + (place - at) + length choice.now * size ≤ length buf.old) }
-    ensures { buf.new ≡ sets buf.old o (take (place - at) (drop at block.now) ++ chosen_parts size choice.now (drop place block.now)) }
-{
-    stores::put(buf, o, &block[at..place]);
-    put_people(buf, o + (place - at), &block[place..], size, choice, people);
-}
+    // Stores a FORMAT field at a place of the buffer: its key and descriptor as they stand, and their elements of everybody's.
+    #[tactic(auto, using(crate::proofs::Written::head_stored))]
+    fn put_field(&self, buf: &mut [u8], o: usize, head: &[u8], parts: &[u8], size: usize)
+        requires { (self.now.people * size ≤ length parts.now) × (o + length head.now + length self.now.choice.now * size ≤ length buf.old) }
+        ensures { buf.new ≡ sets buf.old o (head.now ++ chosen_parts size self.now.choice.now parts.now) }
+    {
+        stores::put(buf, o, head);
+        self.put_parts(buf, o + head.len(), parts, size);
+    }
 
-// Stores so many FORMAT fields from a place of the block on, at a place of the buffer.
-fn put_fields(
-    buf: &mut [u8],
-    to: usize,
-    block: &[u8],
-    from: usize,
-    people: u32,
-    choice: &[u32],
-    count: u8,
-)
-    requires { (ascending people choice.now ≡ true) × (to + fields_size people (length choice.now) count from (drop from block.now) ≤ length buf.old) }
-    ensures { buf.new ≡ sets buf.old to (chosen_fields people choice.now count from (drop from block.now)) }
-{
-    let mut o = to;
-    let mut left = count;
-    let mut at = from;
-    while 0 < left {
-        let f = fetch::field_at(block, at, Kind::Format, people);
-        let Found::Field {
-            key: _,
-            code,
-            len,
-            place,
-            stop,
-        } = f
-        else {
-            return;
-        };
-        let size = choice::part_size(code, len);
-        put_field(buf, o, block, at, place, size, choice, people);
-        o += place - at + choice.len() * size;
-        at = stop;
-        left -= 1;
+    // Stores so many FORMAT fields from a place of the block on, at a place of the buffer.
+    #[tactic(auto, using(crate::proofs::Written::parts_stop, crate::proofs::Written::field_stored, crate::proofs::Fields::fields_none, choice::proofs::Sizes::size_turn), unfolding(crate::specs::Chosen::chosen_fields))]
+    fn put_fields(&self, buf: &mut [u8], to: usize, block: &[u8], from: usize, count: u8)
+        requires { to + fields_size self.now.people (length self.now.choice.now) count from (drop from block.now) ≤ length buf.old }
+        ensures { buf.new ≡ sets buf.old to (chosen_fields self.now.people self.now.choice.now count from (drop from block.now)) }
+    {
+        let mut o = to;
+        let mut at = from;
+        for _ in 0..count {
+            let Ok(
+                Found {
+                    code,
+                    len,
+                    place,
+                    stop,
+                    ..
+                },
+            ) = fetch::field_at(block, at, Kind::Format, self.people)
+            else {
+                return;
+            };
+            let size = choice::part_size(code, len);
+            self.put_field(buf, o, &block[at..place], &block[place..], size);
+            o += place - at + self.choice.len() * size;
+            at = stop;
+        }
     }
 }
 
@@ -134,7 +108,7 @@ fn put_fields(
 fn kept_formats(choice: &[u32], formats: u8) -> u8
     ensures { result ≡ kept_formats choice.now formats }
 {
-    if choice.len() == 0 {
+    if choice.is_empty() {
         return 0;
     }
     formats
@@ -142,12 +116,14 @@ fn kept_formats(choice: &[u32], formats: u8) -> u8
 
 // Stores the chosen record at the buffer's start: the site block, l_indiv and the people count changed, and the genotype block, which
 // has so many bytes.
-fn put_record(buf: &mut [u8], s: &[u8], site: Site, choice: &[u32], size: usize)
-    requires { (ascending site.people choice.now ≡ true) × (site.people < 16777216) × (id_at ≤ site.border) × (site.border ≤ site.length) × (site.length ≤ length s.now) × (size < 2 ^ 32) × (size ≡ length (chosen_block site choice.now s.now)) × (site.border + size ≤ length buf.old) }
-    ensures { buf.new ≡ sets buf.old 0 (chosen_record site choice.now s.now) }
+#[tactic(auto, using(crate::proofs::Written::record_stored, crate::proofs::Written::size_block, choice::proofs::Choice::length_ascending), unfolding(crate::specs::Chosen::chosen_block))]
+fn put_record(buf: &mut [u8], s: &[u8], site: Site, kept: &Kept, size: usize)
+    requires { (kept.now.people ≡ site.people) × (site.people < 16777216) × (id_at ≤ site.border) × (site.border ≤ site.length) × (site.length ≤ length s.now) × (size < 2 ^ 32) × (size ≡ length (chosen_block site kept.now.choice.now s.now)) × (site.border + size ≤ length buf.old) }
+    ensures { buf.new ≡ sets buf.old 0 (chosen_record site kept.now.choice.now s.now) }
 {
     let border = site.border;
     let length = site.length;
+    let choice = kept.choice;
     let count = kept_formats(choice, site.formats);
     stores::put(buf, 0, &s[..border]);
     stores::put_number(buf, fixed::INDIV, 4, size as u32);
@@ -155,30 +131,20 @@ fn put_record(buf: &mut [u8], s: &[u8], site: Site, choice: &[u32], size: usize)
         buf,
         fixed::PEOPLE,
         4,
-        count as u32 * fixed::FORMAT + choice.len() as u32,
+        u32::from(count) * fixed::FORMAT + choice.len() as u32,
     );
-    put_fields(
-        buf,
-        border,
-        &s[..length],
-        border,
-        site.people,
-        choice,
-        count,
-    );
+    kept.put_fields(buf, border, &s[..length], border, count);
 }
 
 // The record of the chosen people at the buffer's start, and its length, with the buffer's other bytes as they were; or reading's refusal, 14, 13,
 // which write nothing.
-pub fn choose(s: &[u8], facts: Facts, choice: &[u32], buf: &mut [u8]) -> Choosing
+#[tactic(auto, unfolding(crate::specs::Choose::choosing, crate::specs::Choose::after_choosing))]
+pub fn choose(s: &[u8], facts: Facts, choice: &[u32], buf: &mut [u8]) -> Result<usize, Refusal>
     ensures told { result ≡ choosing facts choice.now (length buf.old) s.now }
     ensures inside { ChosenInside (length buf.old) result }
     ensures written { buf.new ≡ after_choosing facts choice.now buf.old s.now }
 {
-    let r = record::read(s, facts);
-    let Reading::Accepted { site, gt: _ } = r else {
-        return Choosing::Refused(record::reading_refusal(r));
-    };
+    let Reading { site, .. } = record::read(s, facts)?;
     let people = site.people;
     if choice::is_ascending(choice, people) {
         let border = site.border;
@@ -186,15 +152,16 @@ pub fn choose(s: &[u8], facts: Facts, choice: &[u32], buf: &mut [u8]) -> Choosin
         let count = kept_formats(choice, site.formats);
         let size = choice::kept_size(&s[..length], border, people, choice.len(), count);
         if buf.len() < border + size {
-            return Choosing::Refused(Refusal {
+            return Err(Refusal {
                 number: 13,
                 place: 0,
             });
         }
-        put_record(buf, s, site, choice, size);
-        return Choosing::Chosen(border + size);
+        let kept = Kept { choice, people };
+        put_record(buf, s, site, &kept, size);
+        return Ok(border + size);
     }
-    Choosing::Refused(Refusal {
+    Err(Refusal {
         number: 14,
         place: 0,
     })

@@ -13,9 +13,7 @@ use Rattle.facts.specs.declared.Facts.{Facts}
 use Rattle.fixed.specs.declared.Site.{Site}
 use Rattle.genotypes.specs.Formats.{formats, no_gt}
 use Rattle.genotypes.specs.declared.Gt.{Gt}
-use Rattle.genotypes.specs.declared.Genotypes.TheVariants.{Sound}
-use Rattle.record.specs.Reading.{reading, site_of, genotypes_of}
-use Rattle.record.specs.declared.Reading.TheVariants.{Accepted}
+use Rattle.record.specs.Reading.{reading, site_of, genotypes_of, accepted_as}
 use Rattle.record.proofs.Accepted.{accepted, accepted_fits}
 use Rattle.fetch_laws.proofs.Bytes.{part_of_lem}
 use Rattle.choice.specs.Choice.{ascending}
@@ -26,11 +24,12 @@ use Rattle.fixed.proofs.Fits.{Fits, fits_fixed, people_given}
 use Rattle.choose.proofs.Written.{length_chosen_record, size_block}
 use Rattle.choose_laws.specs.Releases.{for_people, released_site}
 use Rattle.choose_laws.proofs.Blocks.{SameGt, no_gt_lem, formats_none, formats_chosen_fields}
+use Rattle.std.specs.Prelude.{Ok}
 use Rattle.choose_laws.proofs.Sites.{drop_chosen_site, take_chosen_record, drop_chosen_record, fits_chosen_record}
 
 -- an accepted record's genotype block, for its own people
-own_genotypes : (f : Facts) (s : List ℕ) (t : Site) (g : Gt) → t.people ≡ f.people → genotypes_of f t s ≡ Sound g
-    → formats f.strings t.people f.gt t.alleles t.formats [] no_gt t.border (drop t.border (take t.length s)) ≡ Sound g
+own_genotypes : (f : Facts) (s : List ℕ) (t : Site) (g : Gt) → t.people ≡ f.people → genotypes_of f t s ≡ Ok g
+    → formats f.strings t.people f.gt t.alleles t.formats [] no_gt t.border (drop t.border (take t.length s)) ≡ Ok g
 unfolding genotypes_of
 own_genotypes f s t g e h = rw e h
 
@@ -63,11 +62,11 @@ ReleasedGt t (c ∷ cs) s g g' = SameGt t.people (c ∷ cs) s (chosen_record t (
 -- the chosen record's genotype block is read
 record Genotyped (f : Facts) (s : List ℕ) (t : Site) (g : Gt) (cs : List ℕ) : Type 0 where
   gt : Gt
-  read : genotypes_of (for_people (length cs) f) (released_site cs s t) (chosen_record t cs s) ≡ Sound gt
+  read : genotypes_of (for_people (length cs) f) (released_site cs s t) (chosen_record t cs s) ≡ Ok gt
   same : ReleasedGt t cs s g gt
 
 genotyped : (f : Facts) (s : List ℕ) (t : Site) (g : Gt) (cs : List ℕ) → ascending t.people cs ≡ true → Fits f s t
-    → formats f.strings t.people f.gt t.alleles t.formats [] no_gt t.border (drop t.border (take t.length s)) ≡ Sound g
+    → formats f.strings t.people f.gt t.alleles t.formats [] no_gt t.border (drop t.border (take t.length s)) ≡ Ok g
     → t.border ≤ t.length → Genotyped f s t g cs
 unfolding genotypes_of chosen_block chosen_fields
 genotyped f s t g [] c x h k =
@@ -95,10 +94,10 @@ site_released f s t cs h = rw (take_chosen_record t cs s h, drop_chosen_site t c
 -- the law: of a record whose elements are bytes and that is accepted, the chosen record is accepted, with its site and its GT
 pub record Release (f : Facts) (s : List ℕ) (t : Site) (g : Gt) (cs : List ℕ) : Type 0 where
   pub gt : Gt
-  pub read : reading (for_people (length cs) f) (chosen_record t cs s) ≡ Accepted (released_site cs s t) gt
+  pub read : reading (for_people (length cs) f) (chosen_record t cs s) ≡ accepted_as (released_site cs s t) gt
   pub same : ReleasedGt t cs s g gt
 
-pub release : (f : Facts) (s : List ℕ) (t : Site) (g : Gt) (cs : List ℕ) → Bytes s → reading f s ≡ Accepted t g → ascending t.people cs ≡ true
+pub release : (f : Facts) (s : List ℕ) (t : Site) (g : Gt) (cs : List ℕ) → Bytes s → reading f s ≡ accepted_as t g → ascending t.people cs ≡ true
     → Release f s t g cs
 unfolding reading
 release f s t g cs bytes h c =

@@ -13,8 +13,7 @@ use Rattle.fixed.specs.Layout.{indiv_at, people_at, members_of}
 use Rattle.facts.specs.declared.Facts.{Facts}
 use Rattle.fixed.specs.declared.Site.{Site}
 use Rattle.genotypes.specs.declared.Gt.{Gt}
-use Rattle.record.specs.Reading.{reading}
-use Rattle.record.specs.declared.Reading.TheVariants.{Accepted}
+use Rattle.record.specs.Reading.{reading, accepted_as}
 use Rattle.choice.specs.Choice.{ascending}
 use Rattle.choose.specs.Choose.{choosing}
 use Rattle.choose.specs.Chosen.{chosen_fields, kept_formats, chosen_block, chosen_site, chosen_record}
@@ -97,7 +96,7 @@ site_again t cs ds s indiv b q =
     (members_of (kept_formats (composed cs ds) t.formats) (length ds)))
 
 -- choosing from a chosen record is choosing once from the record
-pub chosen_record_composed : (f : Facts) (s : List ℕ) (t : Site) (g : Gt) (cs ds : List ℕ) → reading f s ≡ Accepted t g
+pub chosen_record_composed : (f : Facts) (s : List ℕ) (t : Site) (g : Gt) (cs ds : List ℕ) → reading f s ≡ accepted_as t g
     → ascending t.people cs ≡ true → ascending (length cs) ds ≡ true
     → chosen_record (released_site cs s t) ds (chosen_record t cs s) ≡ chosen_record t (composed cs ds) s
 unfolding chosen_record
@@ -109,9 +108,9 @@ chosen_record_composed f s t g cs ds h p q =
     rw (block_again t cs ds s b p q (filled f s t g h), site_again t cs ds s (length (chosen_block t (composed cs ds) s)) b q)
 
 -- and so is the answer, where the chosen record is accepted
-pub choosing_composed : (f : Facts) (s : List ℕ) (t : Site) (g g' : Gt) (cs ds : List ℕ) (room : ℕ) → reading f s ≡ Accepted t g
+pub choosing_composed : (f : Facts) (s : List ℕ) (t : Site) (g g' : Gt) (cs ds : List ℕ) (room : ℕ) → reading f s ≡ accepted_as t g
     → ascending t.people cs ≡ true → ascending (length cs) ds ≡ true
-    → reading (for_people (length cs) f) (chosen_record t cs s) ≡ Accepted (released_site cs s t) g'
+    → reading (for_people (length cs) f) (chosen_record t cs s) ≡ accepted_as (released_site cs s t) g'
     → choosing (for_people (length cs) f) ds room (chosen_record t cs s) ≡ choosing f (composed cs ds) room s
 unfolding choosing
 choosing_composed f s t g g' cs ds room h p q r =

@@ -13,17 +13,17 @@ use Rattle.words.specs.Pick.{pick}
 use Rattle.words.proofs.Places.{drop_on}
 use Rattle.types.specs.Rows.{width_of}
 use Rattle.types.specs.declared.Use.TheVariants.{Format}
-use Rattle.values.specs.declared.Value.TheVariants.{Present}
 use Rattle.vectors.specs.Sound.{sound}
 use Rattle.genotypes.specs.Formats.{format_field, so_many, formats, role_of, gt_now, gt_at, no_gt}
 use Rattle.genotypes.specs.declared.Gt.{Gt}
-use Rattle.genotypes.specs.declared.Genotypes.TheVariants.{Sound}
 use Rattle.fetch.proofs.Inside.{drop_past}
 use Rattle.fetch_laws.proofs.FormatFields.{JudgedField, format_there, formats_field}
 use Rattle.choice.specs.Choice.{ascending, chosen_parts}
 use Rattle.choose.specs.Chosen.{chosen_fields}
 use Rattle.fetch_laws.proofs.Fronts.{keyed_front, take_past}
 use Rattle.choose_laws.proofs.Judging.{chosen_parts_take}
+use Rattle.std.specs.Prelude.{Ok}
+use Rattle.values.specs.Answers.{whole}
 use Rattle.choose_laws.proofs.Fields.{length_chosen, sound_chosen_parts}
 
 -- the chosen people's elements of a field that is judged sound are there
@@ -61,7 +61,7 @@ formats_chosen_field strings people gt alleles n earlier known known' at at' l c
     let d : drop (next' - at') (take (next - at) l ++ rest) ≡ rest =
     drop_at (take (next - at) l) rest (next' - at') (rw (length-take-le (next - at) l (omega arith)) (omega arith)) in
     let s : sound (length cs) alleles (role_of j.key gt) next' rest
-    ≡ Present j.code j.len (next' + (first - next)) (next' + (first - next) + length cs * j.len * width_of j.code) =
+    ≡ whole j.code j.len (next' + (first - next)) (next' + (first - next) + length cs * j.len * width_of j.code) =
     rw p at (sound_chosen_parts people alleles (role_of j.key gt) next next' l1 cs m j.code j.len first j.stop c j.value) in
     let x = length_judged strings people gt alleles n earlier known at l cs c j in
     let y : next' + (first - next) ≡ at' + (first - at) = omega arith in
@@ -114,18 +114,18 @@ same_now people cs s s' key gt x x' y y' a b = by_key (eqb key gt)
 -- the chosen block: how it is read, and where its GT stands
 pub record Block (strings people gt alleles n : ℕ) (earlier : List ℕ) (known' : Gt) (at' : ℕ) (cs s s' : List ℕ) (g : Gt) : Type 0 where
   pub known : Gt
-  pub read : formats strings (length cs) gt alleles n earlier known' at' (drop at' s') ≡ Sound known
+  pub read : formats strings (length cs) gt alleles n earlier known' at' (drop at' s') ≡ Ok known
   pub same : SameGt people cs s s' g known
 
 -- no field is left, and no byte
 pub formats_ended : (strings people gt alleles : ℕ) (earlier : List ℕ) (known : Gt) (at : ℕ) (l : List ℕ) {g : Gt}
-    → formats strings people gt alleles zero earlier known at l ≡ Sound g → known ≡ g
+    → formats strings people gt alleles zero earlier known at l ≡ Ok g → known ≡ g
 unfolding format_field so_many formats
 formats_ended strings people gt alleles earlier known at [] h = cc
 formats_ended strings people gt alleles earlier known at (b ∷ rest) h = cc
 
 pub formats_none : (strings people gt alleles : ℕ) (earlier : List ℕ) (known : Gt) (at : ℕ)
-    → formats strings people gt alleles zero earlier known at [] ≡ Sound known
+    → formats strings people gt alleles zero earlier known at [] ≡ Ok known
 unfolding format_field so_many formats
 formats_none strings people gt alleles earlier known at = refl
 
@@ -141,7 +141,7 @@ block_on strings people gt alleles n earlier on known' now at' stop' cs s s' fro
 pub formats_chosen_fields : (strings people gt alleles n : ℕ) (earlier : List ℕ) (known known' : Gt) (at at' : ℕ) (cs s s' : List ℕ) {g : Gt}
     → ascending people cs ≡ true → at ≤ length s → at' ≤ length s' → SameGt people cs s s' known known'
     → drop at' s' ≡ chosen_fields people cs n at (drop at s)
-    → formats strings people gt alleles n earlier known at (drop at s) ≡ Sound g
+    → formats strings people gt alleles n earlier known at (drop at s) ≡ Ok g
     → Block strings people gt alleles n earlier known' at' cs s s' g
 unfolding chosen_fields
 formats_chosen_fields strings people gt alleles zero earlier known known' at at' cs s s' c i i' k e h =
@@ -194,7 +194,7 @@ formats_chosen_fields strings people gt alleles (suc n) earlier known known' at 
     let known1 = gt_now j.key gt (gt_at j.code j.len first) known in
     let known1' = gt_now j.key gt (gt_at j.code j.len first') known' in
     let now = same_now people cs s s' j.key gt _ _ known known' here k in
-    let on : formats strings people gt alleles n (earlier ++ (j.key ∷ [])) known1 stop (drop stop s) ≡ Sound g = rw p at j.on in
+    let on : formats strings people gt alleles n (earlier ++ (j.key ∷ [])) known1 stop (drop stop s) ≡ Ok g = rw p at j.on in
     let r = formats_chosen_fields strings people gt alleles n (earlier ++ (j.key ∷ [])) known1 known1' stop stop' cs s s' c (omega arith) (omega arith) now
     (rw p at v) on in
     block_on strings people gt alleles n earlier (earlier ++ (j.key ∷ [])) known' known1' at' stop' cs s s' (take (first - at) l ++ (els ++ m)) m g split v

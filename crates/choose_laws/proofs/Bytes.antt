@@ -19,8 +19,7 @@ use Rattle.facts.specs.declared.Facts.{Facts}
 use Rattle.fixed.specs.Layout.{indiv_at, people_at, members_of}
 use Rattle.fixed.specs.declared.Site.{Site}
 use Rattle.genotypes.specs.declared.Gt.{Gt}
-use Rattle.record.specs.Reading.{reading}
-use Rattle.record.specs.declared.Reading.TheVariants.{Accepted}
+use Rattle.record.specs.Reading.{reading, accepted_as}
 use Rattle.fetch.specs.Account.{fields_of, account, of_kind}
 use Rattle.fetch.specs.declared.Kind.TheVariants.{Format}
 use Rattle.fetch.proofs.Account.{of_kind_lem}
@@ -96,7 +95,7 @@ kept_stretches t (x ∷ cs) s c i h =
     rw e (chosen_fields_stretches t.people t.formats t.border (x ∷ cs) (take t.length s) c i h)
 
 -- the chosen record's bytes
-pub chosen_bytes : (f : Facts) (s : List ℕ) (t : Site) (g : Gt) (cs : List ℕ) → reading f s ≡ Accepted t g → ascending t.people cs ≡ true
+pub chosen_bytes : (f : Facts) (s : List ℕ) (t : Site) (g : Gt) (cs : List ℕ) → reading f s ≡ accepted_as t g → ascending t.people cs ≡ true
     → ChosenBytes t cs s (chosen_record t cs s)
 unfolding chosen_record chosen_site
 chosen_bytes f s t g cs h c =

@@ -19,10 +19,8 @@ use Rattle.genotypes.specs.declared.Gt.{Gt}
 use Rattle.types.specs.Rows.{width_of}
 use Rattle.facts.specs.declared.Facts.{Facts}
 use Rattle.fixed.specs.declared.Site.{Site}
-use Rattle.record.specs.Reading.{reading}
-use Rattle.record.specs.declared.Reading.TheVariants.{Accepted}
+use Rattle.record.specs.Reading.{reading, accepted_as}
 use Rattle.tally.specs.Tally.{calls_of, nobody, tallied}
-use Rattle.tally.specs.declared.Counting.TheVariants.{Counted}
 use Rattle.tally.proofs.Parts.{calls_of_none, calls_of_part}
 use Rattle.choice.specs.Choice.{ascending_from, ascending, chosen_parts}
 use Rattle.choice.proofs.Choice.{Ascends, ascends, part_inside, length_chosen_parts}
@@ -30,6 +28,7 @@ use Rattle.choose.specs.Chosen.{chosen_record}
 use Rattle.choose_laws.specs.Releases.{people_from, everybody, for_people, released_site}
 use Rattle.choose_laws.specs.Divisions.{Division, other}
 use Rattle.choose_laws.proofs.Choices.{ascending_cons, length_people_from}
+use Rattle.std.specs.Prelude.{Ok}
 use Rattle.fetch_laws.proofs.Fronts.{numbers_take}
 
 -- a sum over the people of a list
@@ -297,15 +296,15 @@ calls_of_divided g n s cs ds g₁ s₁ g₂ s₂ d p q = by_size g.len (width_of
         (people_tally_divided g.code (width_of g.code) g.len n cs ds (gt_bytes g n s) d r)
 
 -- the tally of an accepted record with at most 64 alleles
-pub tallied_accepted : (f : Facts) (s : List ℕ) (t : Site) (g : Gt) → reading f s ≡ Accepted t g → t.alleles ≤ 64
-    → tallied f s ≡ record { answer = Counted t; calls = calls_of g t.people s }
+pub tallied_accepted : (f : Facts) (s : List ℕ) (t : Site) (g : Gt) → reading f s ≡ accepted_as t g → t.alleles ≤ 64
+    → tallied f s ≡ record { answer = Ok t; calls = calls_of g t.people s }
 unfolding tallied
 tallied_accepted f s t g h q = rw (h, le-ltb 64 t.alleles q)
 
 -- the two tallies add up to the whole record's, where the records of the two choices are accepted with their parts of GT
-pub tallied_divided : (f : Facts) (s : List ℕ) (t : Site) (g : Gt) (cs ds : List ℕ) (g₁ g₂ : Gt) → reading f s ≡ Accepted t g → t.alleles ≤ 64
-    → Division t.people cs ds → reading (for_people (length cs) f) (chosen_record t cs s) ≡ Accepted (released_site cs s t) g₁
-    → reading (for_people (length ds) f) (chosen_record t ds s) ≡ Accepted (released_site ds s t) g₂ → Part g t.people s cs g₁ (chosen_record t cs s)
+pub tallied_divided : (f : Facts) (s : List ℕ) (t : Site) (g : Gt) (cs ds : List ℕ) (g₁ g₂ : Gt) → reading f s ≡ accepted_as t g → t.alleles ≤ 64
+    → Division t.people cs ds → reading (for_people (length cs) f) (chosen_record t cs s) ≡ accepted_as (released_site cs s t) g₁
+    → reading (for_people (length ds) f) (chosen_record t ds s) ≡ accepted_as (released_site ds s t) g₂ → Part g t.people s cs g₁ (chosen_record t cs s)
     → Part g t.people s ds g₂ (chosen_record t ds s)
     → (tallied f s).calls
     ≡ together (tallied (for_people (length cs) f) (chosen_record t cs s)).calls (tallied (for_people (length ds) f) (chosen_record t ds s)).calls

@@ -13,8 +13,7 @@ use Rattle.fixed.specs.Layout.{indiv_at, people_at, field}
 use Rattle.facts.specs.declared.Facts.{Facts}
 use Rattle.fixed.specs.declared.Site.{Site}
 use Rattle.genotypes.specs.declared.Gt.{Gt}
-use Rattle.record.specs.Reading.{reading}
-use Rattle.record.specs.declared.Reading.TheVariants.{Accepted}
+use Rattle.record.specs.Reading.{reading, accepted_as}
 use Rattle.fetch_laws.proofs.Bytes.{part_of_lem}
 use Rattle.choose.specs.Chosen.{chosen_fields, kept_formats, chosen_block, chosen_site, chosen_record}
 use Rattle.choose_laws.specs.Releases.{people_from, everybody}
@@ -61,7 +60,7 @@ kept_everybody zero formats h = sym (h refl)
 kept_everybody (suc people) formats h = refl
 
 -- choosing everybody gives the same bytes
-pub chosen_record_everybody : (f : Facts) (s : List ℕ) (t : Site) (g : Gt) → Bytes s → reading f s ≡ Accepted t g
+pub chosen_record_everybody : (f : Facts) (s : List ℕ) (t : Site) (g : Gt) → Bytes s → reading f s ≡ accepted_as t g
     → chosen_record t (everybody t.people) s ≡ take t.length s
 unfolding chosen_record chosen_block chosen_site
 chosen_record_everybody f s t g b h =

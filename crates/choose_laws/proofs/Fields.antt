@@ -10,20 +10,19 @@ use lib.Seq.{length-take-le, take_at, drop_at}
 use Rattle.types.specs.Rows.{width_of}
 use Rattle.types.specs.declared.Use.{Use}
 use Rattle.values.specs.Values.{present}
-use Rattle.values.specs.declared.Value.TheVariants.{Present}
 use Rattle.vectors.specs.Sound.{sound, most_of}
-use Rattle.vectors.specs.Vectors.{judged}
-use Rattle.vectors.specs.declared.Judged.TheVariants.{Sound}
+use Rattle.vectors.specs.Vectors.{judged, Sound}
 use Rattle.fetch_laws.proofs.Agree.{sound_there, sound_judged}
 use Rattle.fetch_laws.proofs.Present.{present_typed}
 use Rattle.choice.specs.Choice.{ascending, chosen_parts}
 use Rattle.choice.proofs.Choice.{length_chosen_parts}
 use Rattle.fetch_laws.proofs.Fronts.{present_front}
+use Rattle.values.specs.Answers.{whole}
 use Rattle.choose_laws.proofs.Judging.{chosen_parts_take, judged_chosen_parts}
 
 -- everybody's elements are there, so the chosen people's are
 pub length_chosen : (people : ℕ) (role : Use) (at : ℕ) (l cs : List ℕ) (t n first stop : ℕ) → ascending people cs ≡ true
-    → present people role at l ≡ Present t n first stop
+    → present people role at l ≡ whole t n first stop
     → length (chosen_parts (n * width_of t) cs (drop (first - at) l)) ≡ length cs * n * width_of t
 length_chosen people role at l cs t n first stop c h =
     let i = present_typed people role at l t n first stop h in
@@ -35,9 +34,9 @@ length_chosen people role at l cs t n first stop c h =
 
 -- the law: so the chosen people's value is sound, at any place and before whatever follows
 pub sound_chosen_parts : (people alleles : ℕ) (role : Use) (at at' : ℕ) (l cs m : List ℕ) (t n first stop : ℕ) → ascending people cs ≡ true
-    → sound people alleles role at l ≡ Present t n first stop
+    → sound people alleles role at l ≡ whole t n first stop
     → sound (length cs) alleles role at' (take (first - at) l ++ (chosen_parts (n * width_of t) cs (drop (first - at) l) ++ m))
-    ≡ Present t n (at' + (first - at)) (at' + (first - at) + length cs * n * width_of t)
+    ≡ whole t n (at' + (first - at)) (at' + (first - at) + length cs * n * width_of t)
 unfolding sound
 sound_chosen_parts people alleles role at at' l cs m t n first stop c h =
     let p = sound_there people alleles role at l t n first stop h in

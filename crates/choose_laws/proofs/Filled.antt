@@ -13,12 +13,10 @@ use Rattle.fixed.specs.declared.Site.{Site}
 use Rattle.fixed.proofs.Fits.{people_given}
 use Rattle.genotypes.specs.Formats.{format_field, so_many, formats, none_over}
 use Rattle.genotypes.specs.declared.Gt.{Gt}
-use Rattle.genotypes.specs.declared.Genotypes.TheVariants.{Sound}
-use Rattle.record.specs.Reading.{reading, genotypes_of}
-use Rattle.record.specs.declared.Reading.TheVariants.{Accepted}
+use Rattle.record.specs.Reading.{reading, genotypes_of, accepted_as}
 use Rattle.record.proofs.Accepted.{accepted, accepted_fits}
-use Rattle.fetch.specs.Fields.{paired}
-use Rattle.fetch.specs.declared.Found.TheVariants.{Field}
+use Rattle.fetch.specs.Fields.{paired, found_field}
+use Rattle.std.specs.Prelude.{Ok}
 use Rattle.fetch_laws.proofs.FormatFields.{formats_field}
 
 -- a FORMAT field at the front of a list that is there, and what holds of the rest
@@ -28,7 +26,7 @@ pub record Fill (people at : ℕ) (l : List ℕ) (After : ℕ → List ℕ → T
   pub len : ℕ
   pub first : ℕ
   pub stop : ℕ
-  pub here : paired people Format at l ≡ Field key code len first stop
+  pub here : paired people Format at l ≡ found_field key code len first stop
   pub later : at ≤ first
   pub ends : stop ≡ first + people * len * width_of code
   pub inside : stop ≤ at + length l
@@ -39,13 +37,13 @@ abbrev pub Filled : ℕ → ℕ → ℕ → List ℕ → Type 0
 Filled people zero at l = l ≡ []
 Filled people (suc n) at l = Fill people at l (Filled people n)
 
-none_over_lem : (known : Gt) (at : ℕ) (l : List ℕ) {g : Gt} → none_over known at l ≡ Sound g → l ≡ []
+none_over_lem : (known : Gt) (at : ℕ) (l : List ℕ) {g : Gt} → none_over known at l ≡ Ok g → l ≡ []
 none_over_lem known at [] h = refl
 none_over_lem known at (b ∷ rest) h = cc
 
 -- fields that reading judged sound are there, and fill their list
 formats_filled : (strings people gt alleles n : ℕ) (earlier : List ℕ) (known : Gt) (at : ℕ) (l : List ℕ) {g : Gt}
-    → formats strings people gt alleles n earlier known at l ≡ Sound g → Filled people n at l
+    → formats strings people gt alleles n earlier known at l ≡ Ok g → Filled people n at l
 unfolding format_field so_many formats
 formats_filled strings people gt alleles zero earlier known at l h = none_over_lem known at l h
 formats_filled strings people gt alleles (suc n) earlier known at l h =
@@ -75,7 +73,7 @@ pub record Opened (f : Facts) (s : List ℕ) (t : Site) : Type 0 where
   pub given : t.people ≡ f.people
   pub nobody : t.people ≡ 0 → t.formats ≡ 0
 
-pub opened : (f : Facts) (s : List ℕ) (t : Site) (g : Gt) → reading f s ≡ Accepted t g → Opened f s t
+pub opened : (f : Facts) (s : List ℕ) (t : Site) (g : Gt) → reading f s ≡ accepted_as t g → Opened f s t
 opened f s t g h =
     let x = accepted_fits f s t g h in
     let a = x.border in
@@ -94,7 +92,7 @@ opened f s t g h =
     }
 
 -- an accepted record's FORMAT fields fill its genotype block
-pub filled : (f : Facts) (s : List ℕ) (t : Site) (g : Gt) → reading f s ≡ Accepted t g
+pub filled : (f : Facts) (s : List ℕ) (t : Site) (g : Gt) → reading f s ≡ accepted_as t g
     → Filled t.people t.formats t.border (drop t.border (take t.length s))
 unfolding genotypes_of
 filled f s t g h =

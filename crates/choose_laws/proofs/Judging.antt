@@ -12,12 +12,12 @@ use Rattle.types.specs.Rows.{width_of}
 use Rattle.types.specs.Elements.{kind}
 use Rattle.types.specs.declared.Element.{Element}
 use Rattle.types.specs.declared.Element.TheVariants.{Plain, Missing, End, Reserved}
-use Rattle.vectors.specs.Vectors.{numbers, element_turn, follow, vector, and_then, vectors, judged}
-use Rattle.vectors.specs.declared.Judged.{Judged}
-use Rattle.vectors.specs.declared.Judged.TheVariants.{Sound, Refused as Unsound}
+use Rattle.vectors.specs.Vectors.{numbers, element_turn, follow, vector, and_then, vectors, judged, Sound}
 use Rattle.fetch_laws.proofs.Bytes.{part_of_lem}
 use Rattle.choice.specs.Choice.{ascending_from, chosen_parts}
 use Rattle.choice.proofs.Choice.{ascends, part_inside, length_chosen_parts}
+use Rattle.std.specs.Prelude.{Err}
+use Rattle.values.specs.Answers.{Answer}
 use Rattle.fetch_laws.proofs.Fronts.{numbers_take}
 
 -- a vector that is sound at one place is sound at any
@@ -44,9 +44,9 @@ vector_anywhere most t w at at' e (x ∷ xs) h =
         by_most true g = let z = rw g at s in cc
         by_most false g = rw g (on false (rw g at s))
 
-pub both_sound : (a b : Judged) → and_then a b ≡ Sound → (a ≡ Sound) × (b ≡ Sound)
+pub both_sound : (a b : Answer (Unit {0})) → and_then a b ≡ Sound → (a ≡ Sound) × (b ≡ Sound)
 both_sound Sound b h = (refl, h)
-both_sound (Unsound r) b h = let z : ◌≡◌ {A = ℕ} 0 1 = cc in absurd (omega arith)
+both_sound (Err r) b h = let z : ◌≡◌ {A = ℕ} 0 1 = cc in absurd (omega arith)
 
 -- each person of sound people is sound
 vectors_person : (most t w len n at at' c : ℕ) (l : List ℕ) → c < n → vectors most t w len n at l ≡ Sound

@@ -10,8 +10,7 @@ use lib.ListN.{length, take, drop, length-drop}
 use lib.Seq.{drop-drop, take_at, drop_at, length-take-le}
 use Rattle.types.specs.Rows.{width_of}
 use Rattle.types.specs.declared.Use.TheVariants.{Format}
-use Rattle.fetch.specs.Fields.{paired}
-use Rattle.fetch.specs.declared.Found.TheVariants.{Field}
+use Rattle.fetch.specs.Fields.{paired, found_field}
 use Rattle.choice.specs.Choice.{ascending, chosen_parts}
 use Rattle.choice.proofs.Choice.{length_chosen_parts}
 use Rattle.choose_laws.proofs.Filled.{Fill}
@@ -19,7 +18,7 @@ use Rattle.fetch_laws.proofs.Fronts.{paired_front}
 
 -- a list that begins with such a field: the field, and the list's parts
 pub record Kept (key code len front at k : ℕ) (before els m x : List ℕ) : Type 0 where
-  pub here : paired k Format at x ≡ Field key code len (at + front) (at + front + k * len * width_of code)
+  pub here : paired k Format at x ≡ found_field key code len (at + front) (at + front + k * len * width_of code)
   pub head : take (at + front - at) x ≡ before
   pub elements : drop (at + front - at) x ≡ els ++ m
   pub rest : drop (at + front + k * len * width_of code - at) x ≡ m

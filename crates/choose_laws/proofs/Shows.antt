@@ -14,8 +14,7 @@ use Rattle.fixed.specs.Layout.{id_at}
 use Rattle.facts.specs.declared.Facts.{Facts}
 use Rattle.fixed.specs.declared.Site.{Site}
 use Rattle.genotypes.specs.declared.Gt.{Gt}
-use Rattle.record.specs.Reading.{reading}
-use Rattle.record.specs.declared.Reading.TheVariants.{Accepted}
+use Rattle.record.specs.Reading.{reading, accepted_as}
 use Rattle.fetch.specs.declared.Kind.TheVariants.{Format}
 use Rattle.contents.specs.Contents.{shown_of}
 use Rattle.contents.proofs.Blocks.{format_of, items_of, blocks_shown, shown_blocks}
@@ -82,7 +81,7 @@ each_kept people formats at [] l p h = refl
 each_kept people formats at (c ∷ cs) l p h = each_chosen_fields people formats at at (c ∷ cs) l p h
 
 -- the chosen record shows what is released
-pub shown_of_chosen_record : (f : Facts) (s : List ℕ) (t : Site) (g : Gt) (cs : List ℕ) → reading f s ≡ Accepted t g
+pub shown_of_chosen_record : (f : Facts) (s : List ℕ) (t : Site) (g : Gt) (cs : List ℕ) → reading f s ≡ accepted_as t g
     → ascending t.people cs ≡ true → shown_of (released_site cs s t) (chosen_record t cs s) ≡ released cs (shown_of t s)
 unfolding blocks_shown chosen_block
 shown_of_chosen_record f s t g cs h p =

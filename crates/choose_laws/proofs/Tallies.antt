@@ -7,8 +7,7 @@ use Rattle.words.specs.Words.{Bytes}
 use Rattle.facts.specs.declared.Facts.{Facts}
 use Rattle.fixed.specs.declared.Site.{Site}
 use Rattle.genotypes.specs.declared.Gt.{Gt}
-use Rattle.record.specs.Reading.{reading}
-use Rattle.record.specs.declared.Reading.TheVariants.{Accepted}
+use Rattle.record.specs.Reading.{reading, accepted_as}
 use Rattle.calls.specs.Totals.{together}
 use Rattle.tally.specs.Tally.{tallied}
 use Rattle.choose.specs.Chosen.{chosen_record}
@@ -22,7 +21,7 @@ part : (t : Site) (cs s : List ℕ) (g g' : Gt) → ReleasedGt t cs s g g' → P
 part t [] s g g' h = none refl (ap (λ (x : Gt). x.len) h)
 part t (c ∷ cs) s g g' h = kept h.code h.len h.inside (rw (h.code, h.len) h.elements)
 
-pub tallied_sum : (f : Facts) (s : List ℕ) (t : Site) (g : Gt) (cs ds : List ℕ) → Bytes s → reading f s ≡ Accepted t g → t.alleles ≤ 64
+pub tallied_sum : (f : Facts) (s : List ℕ) (t : Site) (g : Gt) (cs ds : List ℕ) → Bytes s → reading f s ≡ accepted_as t g → t.alleles ≤ 64
     → Division t.people cs ds
     → (tallied f s).calls
     ≡ together (tallied (for_people (length cs) f) (chosen_record t cs s)).calls (tallied (for_people (length ds) f) (chosen_record t ds s)).calls

@@ -12,8 +12,6 @@ use Rattle.words.proofs.Places.{drop_on}
 use Rattle.fixed.specs.Layout.{id_at}
 use Rattle.positions.specs.Positions.{pos_bits}
 use Rattle.fixed.specs.declared.Site.{Site}
-use Rattle.site.specs.declared.Step.{Step}
-use Rattle.site.specs.declared.Step.TheVariants.{At, Refused as NoStep}
 use Rattle.shown.specs.Shown.{Elements, Pair, Field, Shown, kind_of}
 use Rattle.vectors.specs.Vectors.{elements_of}
 use Rattle.fetch.specs.Fields.{field_at, FoundInside}
@@ -21,12 +19,13 @@ use Rattle.fetch.specs.Account.{Entry, entered, fields_of, site_kinds, site_fiel
 use Rattle.fetch.specs.Engine.{to_first, is_format, block_from, block_end, block_of}
 use Rattle.fetch.specs.declared.Kind.{Kind}
 use Rattle.fetch.specs.declared.Kind.TheVariants.{Id, Allele, Filter, Info, Format}
-use Rattle.fetch.specs.declared.Found.{Found}
-use Rattle.fetch.specs.declared.Found.TheVariants.{Field as Is, Refused}
 use Rattle.fetch.proofs.Account.{then_fields, of_kind_lem, to_first_later}
 use Rattle.fetch.proofs.Inside.{StepLater, field_inside}
 use Rattle.fetch_laws.proofs.Bytes.{part_of_lem}
 use Rattle.contents.specs.Contents.{elements_at, shown_of}
+use Rattle.fetch.specs.declared.Found.{Found}
+use Rattle.std.specs.Prelude.{Ok, Err}
+use Rattle.values.specs.Answers.{Answer}
 use Rattle.contents.proofs.Elements.{elements_of_take}
 
 -- a field as it is shown: its kind, its key, its length and its value
@@ -53,10 +52,10 @@ abbrev pub format_of : Item → Field
 format_of i = record { key = i.key; len = i.len; value = i.value }
 
 -- the fields of these kinds at the front of a list, as they are shown, as far as they stand there whole
-abbrev pub item_then : Kind → ℕ → List ℕ → (ℕ → List ℕ → List Item) → Found → List Item
-item_then kind at l rest (Refused r) = []
-item_then kind at l rest (Is key t n place stop) =
-    item kind key t n (elements_of t (stop - place) (drop (place - at) l)) ∷ rest stop (drop (stop - at) l)
+abbrev pub item_then : Kind → ℕ → List ℕ → (ℕ → List ℕ → List Item) → Answer Found → List Item
+item_then kind at l rest (Err r) = []
+item_then kind at l rest (Ok x) =
+    item kind x.key x.code x.len (elements_of x.code (x.stop - x.place) (drop (x.place - at) l)) ∷ rest x.stop (drop (x.stop - at) l)
 
 unfoldable pub items_of : ℕ → List Kind → ℕ → List ℕ → List Item
 items_of people [] at l = []
@@ -82,11 +81,11 @@ items_map people (kind ∷ kinds) at end s =
     l = drop at (take end s)
 
     by_field : ((q : ℕ) → map (item_of s) (fields_of people kinds q (drop q (take end s))) ≡ items_of people kinds q (drop q (take end s)))
-        → (r : Found) → FoundInside at (at + length l) r
+        → (r : Answer Found) → FoundInside at (at + length l) r
         → map (item_of s) (entered kind at l (fields_of people kinds) r) ≡ item_then kind at l (items_of people kinds) r
-    by_field on (Refused r) h = refl
-    by_field on (Is key t len place stop) h =
-        rw (elements_part s end at t place stop (omega arith) h.1 h.2 (omega arith), drop_on (take end s) at stop (omega arith), on stop)
+    by_field on (Err r) h = refl
+    by_field on (Ok x) h =
+        rw (elements_part s end at x.code x.place x.stop (omega arith) h.1 h.2 (omega arith), drop_on (take end s) at x.stop (omega arith), on x.stop)
 
 -- those of a kind
 unfoldable pub items_for : Kind → List Item → List Item
@@ -153,14 +152,14 @@ shown_items t s =
     )
 
 -- kind by kind: past those before the first of a kind, and then as many as there are
-abbrev pub then_items : ℕ → List ℕ → Step → (ℕ → List ℕ → List Item) → List Item
-then_items at l (NoStep r) next = []
-then_items at l (At q) next = next q (drop (q - at) l)
+abbrev pub then_items : ℕ → List ℕ → Answer ℕ → (ℕ → List ℕ → List Item) → List Item
+then_items at l (Err r) next = []
+then_items at l (Ok q) next = next q (drop (q - at) l)
 
-then_map : (kinds : List Kind) (people at end : ℕ) (s : List ℕ) (p : Step) → StepLater at p
+then_map : (kinds : List Kind) (people at end : ℕ) (s : List ℕ) (p : Answer ℕ) → StepLater at p
     → map (item_of s) (then_fields at (drop at (take end s)) p (fields_of people kinds)) ≡ then_items at (drop at (take end s)) p (items_of people kinds)
-then_map kinds people at end s (NoStep r) h = refl
-then_map kinds people at end s (At q) h = rw (drop_on (take end s) at q h) (items_map people kinds q end s)
+then_map kinds people at end s (Err r) h = refl
+then_map kinds people at end s (Ok q) h = rw (drop_on (take end s) at q h) (items_map people kinds q end s)
 
 kind_each : {A : Type 0} (make : Item → A) (kind : Kind) (t : Site) (s : List ℕ)
     → map (λ (e : Entry). make (item_of s e)) (of_kind kind (account t s))
@@ -181,10 +180,10 @@ field_at_people Filter people at l h = refl
 field_at_people Info people at l h = refl
 field_at_people Format people at l h = cc
 
-item_then_same : (kind : Kind) (at : ℕ) (l : List ℕ) (rest rest' : ℕ → List ℕ → List Item) (r : Found)
+item_then_same : (kind : Kind) (at : ℕ) (l : List ℕ) (rest rest' : ℕ → List ℕ → List Item) (r : Answer Found)
     → ((q : ℕ) (m : List ℕ) → rest q m ≡ rest' q m) → item_then kind at l rest r ≡ item_then kind at l rest' r
-item_then_same kind at l rest rest' (Refused r) h = refl
-item_then_same kind at l rest rest' (Is key t n place stop) h = rw (h stop (drop (stop - at) l))
+item_then_same kind at l rest rest' (Err r) h = refl
+item_then_same kind at l rest rest' (Ok x) h = rw (h x.stop (drop (x.stop - at) l))
 
 items_people : (kind : Kind) (people n at : ℕ) (l : List ℕ) → is_format kind ≡ false
     → items_of people (replicate n kind) at l ≡ items_of 1 (replicate n kind) at l
@@ -205,10 +204,10 @@ unfolding each_in
 site_each make kind t s h =
     rw h at (kind_each make kind t s) ∙ ap (map make) (by-step (to_first kind t.alleles id_at (drop id_at (take t.border s))))
   where
-    by-step : (p : Step) → then_items id_at (drop id_at (take t.border s)) p (items_of t.people (replicate (count_of kind t) kind))
+    by-step : (p : Answer ℕ) → then_items id_at (drop id_at (take t.border s)) p (items_of t.people (replicate (count_of kind t) kind))
         ≡ then_items id_at (drop id_at (take t.border s)) p (items_of 1 (replicate (count_of kind t) kind))
-    by-step (NoStep r) = refl
-    by-step (At q) = items_people kind t.people (count_of kind t) q _ h
+    by-step (Err r) = refl
+    by-step (Ok q) = items_people kind t.people (count_of kind t) q _ h
 
 unfoldable pub blocks_shown : Site → List ℕ → List ℕ → Shown
 blocks_shown t l m =

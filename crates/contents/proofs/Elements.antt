@@ -1,5 +1,6 @@
 -- Elements are shown by their own bytes, whatever stands around them; one by one, as they are asked for, they are those that a record shows. Rests on
 -- specs/Fetched, on elements and on fetch_laws' Fronts.
+use Rattle.std.specs.Prelude.{None, Some}
 use mathlib.Core.Path.{◌≡◌, refl, sym, ◌∙◌, ap}
 use mathlib.Core.List.{List, [], ◌∷◌}
 use Prim.Native.Nat.{ℕ, zero, suc, ◌+◌, ◌*◌, ◌/◌, ◌≤◌}
@@ -15,7 +16,6 @@ use Rattle.types.specs.Elements.{shown}
 use Rattle.vectors.specs.Vectors.{shown_numbers, elements_of}
 use Rattle.fetch_laws.proofs.Fronts.{numbers_take, shown_numbers_numbers}
 use Rattle.elements.specs.Elements.{shown_by, element_at}
-use Rattle.elements.specs.declared.Shown.TheVariants.{Nothing}
 use Rattle.contents.specs.Fetched.{shown_at}
 
 pub elements_of_take : (t size : ℕ) (l m : List ℕ) → take size l ≡ take size m → elements_of t size l ≡ elements_of t size m
@@ -34,7 +34,7 @@ elements_of_none t l = rw (zero-div (width_of t))
 
 -- one of the numbers at the front of a list
 shown_at_shown_numbers : (t w n : ℕ) (l : List ℕ) (i : ℕ)
-    → shown_at t (shown_numbers t w n l) i ≡ pick (leb n i) Nothing (shown_by t (shown t (number w (drop (i * w) l))))
+    → shown_at t (shown_numbers t w n l) i ≡ pick (leb n i) None (Some (shown_by t (shown t (number w (drop (i * w) l)))))
 unfolding shown_numbers
 shown_at_shown_numbers t w zero l i = rw leb-zero
 shown_at_shown_numbers t w (suc n) l zero = rw (leb-suc-zero, zero-mul w)

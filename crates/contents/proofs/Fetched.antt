@@ -1,32 +1,26 @@
 -- What an accepted record shows is what is fetched of it. Rests on proofs/Elements and Counts, on the laws of the account and of what is found.
-use mathlib.Core.Path.{◌≡◌, refl, sym, ◌∙◌, ap}
+use mathlib.Core.Path.{◌≡◌, refl, sym, ◌∙◌}
 use mathlib.Core.List.{List, [], ◌∷◌, map, append-nil, flatten}
-use mathlib.Core.Bool.{Bool, true, false}
-use Prim.Native.Nat.{ℕ, zero, suc, ◌+◌, ◌-◌, ◌*◌, ◌/◌, ◌<◌, ◌≤◌}
+use mathlib.Core.Bool.{true}
+use Prim.Native.Nat.{ℕ, zero, suc, ◌-◌, ◌*◌, ◌/◌, ◌<◌, ◌≤◌}
 use native.Mathlib.Omega.{arith}
 use lib.ListN.{length, get_or, take, drop, length-take, length-drop, length-map}
 use Rattle.types.specs.Rows.{width_of}
 use Rattle.types.specs.declared.Use.{Use}
 use Rattle.types.specs.declared.Use.TheVariants.{Id as IdUse, Allele as AlleleUse, Filter as FilterUse, Info as InfoUse, Format as FormatUse}
-use Rattle.values.specs.Answers.{refusal}
+use Rattle.values.specs.Answers.{refusal, Answer, whole}
 use Rattle.values.specs.Values.{present}
-use Rattle.values.specs.declared.Value.{Value}
-use Rattle.values.specs.declared.Value.TheVariants.{Present, Refused as NoValue}
 use Rattle.facts.specs.declared.Facts.{Facts}
 use Rattle.fixed.specs.declared.Site.{Site}
 use Rattle.genotypes.specs.declared.Gt.{Gt}
-use Rattle.record.specs.Reading.{reading}
-use Rattle.shown.specs.Shown.{Pair, Field, integers, kind_of}
-use Rattle.vectors.specs.Vectors.{elements_of}
-use Rattle.record.specs.declared.Reading.TheVariants.{Accepted}
-use Rattle.fetch.specs.Fields.{value_field, alone, field_at}
+use Rattle.record.specs.Reading.{reading, accepted_as}
+use Rattle.shown.specs.Shown.{Pair, Field}
+use Rattle.fetch.specs.Fields.{value_field, alone, field_at, found_field}
 use Rattle.fetch.specs.Account.{Entry, account, of_kind, as_found, numbered, count_of}
 use Rattle.fetch.specs.Engine.{block_end}
 use Rattle.fetch.specs.Fetch.{field_of, found, fetched}
 use Rattle.fetch.specs.declared.Kind.{Kind}
 use Rattle.fetch.specs.declared.Kind.TheVariants.{Id, Allele, Filter, Info, Format}
-use Rattle.fetch.specs.declared.Found.{Found}
-use Rattle.fetch.specs.declared.Found.TheVariants.{Field as Is, Refused}
 use Rattle.fetch.proofs.Inside.{field_inside}
 use Rattle.fetch_laws.proofs.Bytes.{fetches, is_field, found_there}
 use Rattle.fetch_laws.proofs.Present.{paired_keyed}
@@ -34,7 +28,10 @@ use Rattle.fetch_laws.proofs.There.{accepted_people, found_none}
 use Rattle.contents.specs.Contents.{elements_at, pair_shown, field_shown, shown_of}
 use Rattle.contents.specs.Fetched.{Gives, GivesText, GivesFilter, GivesPair, GivesField, ShownFetched}
 use Rattle.contents.proofs.Counts.{present_count, present_id, present_allele, present_filter}
+use Rattle.std.specs.Prelude.{Err, Ok}
+use Rattle.values.specs.declared.Value.{Value}
 use Rattle.contents.proofs.Elements.{shown_at_elements_of, length_elements_of, elements_of_text}
+use Rattle.fetch.proofs.Held.{same_field}
 
 -- the entry of a number in a list of fields is what is found by that number, and there are as many as are found
 numbered_entry : (es : List Entry) (i : ℕ) (d : Entry) → i < length es → numbered i es ≡ as_found (get_or es i d)
@@ -54,14 +51,14 @@ found_enough es zero h = omega arith
 found_enough [] (suc n) h = let e = h 0 (omega arith) in let z : ◌≡◌ {A = ℕ} 0 1 = cc in absurd (omega arith)
 found_enough (e ∷ es) (suc n) h = let k = found_enough es n (λ i q. h (suc i) (omega arith)) in omega arith
 
-found_all : (es : List Entry) (n : ℕ) → numbered n es ≡ Refused (refusal 16 0) → length es ≤ n
+found_all : (es : List Entry) (n : ℕ) → numbered n es ≡ Err (refusal 16 0) → length es ≤ n
 unfolding numbered
 found_all [] n h = omega arith
 found_all (e ∷ es) zero h = let z : ◌≡◌ {A = ℕ} 0 1 = cc in absurd (omega arith)
 found_all (e ∷ es) (suc n) h = let k = found_all es n h in omega arith
 
 -- the law: of an accepted record every field that its counts say is there
-pub count_there : (f : Facts) (s : List ℕ) (t : Site) (g : Gt) (kind : Kind) → reading f s ≡ Accepted t g
+pub count_there : (f : Facts) (s : List ℕ) (t : Site) (g : Gt) (kind : Kind) → reading f s ≡ accepted_as t g
     → length (of_kind kind (account t s)) ≡ count_of kind t
 unfolding found field_of
 count_there f s t g kind h =
@@ -78,16 +75,16 @@ vectors_of Filter people = 1
 vectors_of Info people = 1
 vectors_of Format people = people
 
-alone_present : (role : Use) (at : ℕ) (l : List ℕ) (key t n first stop : ℕ) → alone role at l ≡ Is key t n first stop
-    → present 1 role at l ≡ Present t n first stop
+alone_present : (role : Use) (at : ℕ) (l : List ℕ) (key t n first stop : ℕ) → alone role at l ≡ found_field key t n first stop
+    → present 1 role at l ≡ whole t n first stop
 unfolding alone
 alone_present role at l key t n first stop h = by_value (present 1 role at l) h
   where
-    by_value : (v : Value) → value_field 0 v ≡ Is key t n first stop → v ≡ Present t n first stop
-    by_value (NoValue r) e = cc
-    by_value (Present t' n' first' stop') e = cc
+    by_value : (v : Answer Value) → value_field 0 v ≡ found_field key t n first stop → v ≡ whole t n first stop
+    by_value (Err r) e = cc
+    by_value (Ok v) e = let k = same_field e in rw (k.1, k.2, k.3, k.4)
 
-field_count : (kind : Kind) (people at : ℕ) (l : List ℕ) (key t n first stop : ℕ) → field_at kind people at l ≡ Is key t n first stop
+field_count : (kind : Kind) (people at : ℕ) (l : List ℕ) (key t n first stop : ℕ) → field_at kind people at l ≡ found_field key t n first stop
     → (stop - first) / width_of t ≡ vectors_of kind people * n
 field_count Id people at l key t n first stop h = present_count 1 IdUse at l t n first stop (alone_present IdUse at l key t n first stop h)
 field_count Allele people at l key t n first stop h =
@@ -108,7 +105,7 @@ record Stands (f : Facts) (s : List ℕ) (kind : Kind) (e : Entry) : Type 0 wher
   field : field_at kind f.people at block ≡ as_found e
   whole : e.stop - e.place ≤ length (drop e.place s)
 
-stands : (f : Facts) (s : List ℕ) (t : Site) (g : Gt) (kind : Kind) (number : ℕ) (e : Entry) → reading f s ≡ Accepted t g
+stands : (f : Facts) (s : List ℕ) (t : Site) (g : Gt) (kind : Kind) (number : ℕ) (e : Entry) → reading f s ≡ accepted_as t g
     → number < count_of kind t → found f kind number s ≡ as_found e → Stands f s kind e
 stands f s t g kind number e h q k =
     let r = fetches f kind number s t g h q in
@@ -131,13 +128,13 @@ gives f s kind number e k x =
     }
 
 -- ID and alleles are text with no key, and so the bytes that are fetched
-alone_key : (role : Use) (at : ℕ) (l : List ℕ) (key t n first stop : ℕ) → alone role at l ≡ Is key t n first stop → key ≡ 0
+alone_key : (role : Use) (at : ℕ) (l : List ℕ) (key t n first stop : ℕ) → alone role at l ≡ found_field key t n first stop → key ≡ 0
 unfolding alone
 alone_key role at l key t n first stop h = by_value (present 1 role at l) h
   where
-    by_value : (v : Value) → value_field 0 v ≡ Is key t n first stop → key ≡ 0
-    by_value (NoValue r) e = let z : ◌≡◌ {A = ℕ} 0 1 = cc in absurd (omega arith)
-    by_value (Present t' n' first' stop') e = cc
+    by_value : (v : Answer Value) → value_field 0 v ≡ found_field key t n first stop → key ≡ 0
+    by_value (Err r) e = let z : ◌≡◌ {A = ℕ} 0 1 = cc in absurd (omega arith)
+    by_value (Ok v) e = sym (same_field e).0
 
 gives_as : (f : Facts) (s : List ℕ) (kind : Kind) (number vectors vectors' key key' code code' len : ℕ) (xs : List ℕ) → vectors ≡ vectors' → key ≡ key'
     → code ≡ code' → Gives f s kind number vectors key code len xs → Gives f s kind number vectors' key' code' len xs
@@ -187,7 +184,7 @@ record Nth (f : Facts) (s : List ℕ) (t : Site) (kind : Kind) (i : ℕ) : Type 
   stood : Stands f s kind (entry_of kind i t s)
   last : i < length (of_kind kind (account t s))
 
-nth : (f : Facts) (s : List ℕ) (t : Site) (g : Gt) (kind : Kind) (i : ℕ) → reading f s ≡ Accepted t g → i < count_of kind t → Nth f s t kind i
+nth : (f : Facts) (s : List ℕ) (t : Site) (g : Gt) (kind : Kind) (i : ℕ) → reading f s ≡ accepted_as t g → i < count_of kind t → Nth f s t kind i
 unfolding found field_of
 nth f s t g kind i h q =
     let es = of_kind kind (account t s) in
@@ -217,7 +214,7 @@ field_gives : (f : Facts) (s : List ℕ) (number people : ℕ) (e : Entry) (x : 
 field_gives f s number people e x same given k y = rw (same, given) (record { code = e.code; given = gives f s Format number e k y; kind = refl })
 
 -- the law
-pub shown_fetched : (f : Facts) (s : List ℕ) (t : Site) (g : Gt) → reading f s ≡ Accepted t g → ShownFetched f s t
+pub shown_fetched : (f : Facts) (s : List ℕ) (t : Site) (g : Gt) → reading f s ≡ accepted_as t g → ShownFetched f s t
 unfolding shown_of
 shown_fetched f s t g h =
     let first = nth f s t g Id 0 h (omega arith) in

@@ -1,6 +1,6 @@
 -- What an accepted record shows is what a caller gets of it, field by field: what `find` answers, what `fetch` lends, and what `element_at`
 -- says of each element there. Rests on what a record shows, on fetching and on elements.
-use Rattle.std.specs.Prelude.{ℕ, zero, suc, ◌*◌, ◌<◌, ◌≤◌, ◌≡◌, List, [], ◌∷◌, length, get_or}
+use Rattle.std.specs.Prelude.{Option, None, Some, ℕ, zero, suc, ◌*◌, ◌<◌, ◌≤◌, ◌≡◌, List, [], ◌∷◌, length, get_or, Err}
 use Rattle.values.specs.Answers.{refusal}
 use Rattle.facts.specs.declared.Facts.{Facts}
 use Rattle.positions.specs.Positions.{pos_bits}
@@ -10,17 +10,16 @@ use Rattle.fetch.specs.Account.{count_of}
 use Rattle.fetch.specs.Fetch.{found, fetched}
 use Rattle.fetch.specs.declared.Kind.{Kind}
 use Rattle.fetch.specs.declared.Kind.TheVariants.{Id, Allele, Filter, Info, Format}
-use Rattle.fetch.specs.declared.Found.TheVariants.{Field as Found, Refused}
 use Rattle.elements.specs.Elements.{shown_by, element_at}
 use Rattle.elements.specs.declared.Shown.{Shown}
-use Rattle.elements.specs.declared.Shown.TheVariants.{Nothing}
+use Rattle.fetch.specs.Fields.{found_field}
 use Rattle.contents.specs.Contents.{shown_of}
 
 -- the element of a list at an index, as `element_at` answers it of a part of this type: what its 32 bits say, an integer's as the signed number that
--- they are; nothing past the last one
-abbrev pub shown_at : ℕ → List ℕ → ℕ → Shown
-shown_at t [] i = Nothing
-shown_at t (x ∷ xs) zero = shown_by t x
+-- they are; none past the last one
+abbrev pub shown_at : ℕ → List ℕ → ℕ → Option Shown
+shown_at t [] i = None
+shown_at t (x ∷ xs) zero = Some (shown_by t x)
 shown_at t (x ∷ xs) (suc i) = shown_at t xs i
 
 -- the field of a kind and a number is found, and not refused, with this key, type and length; the elements of the part that is fetched, each shown
@@ -28,7 +27,7 @@ shown_at t (x ∷ xs) (suc i) = shown_at t xs i
 pub record Gives (f : Facts) (s : List ℕ) (kind : Kind) (number vectors key code len : ℕ) (xs : List ℕ) : Type 0 where
   pub place : ℕ
   pub stop : ℕ
-  pub there : found f kind number s ≡ Found key code len place stop
+  pub there : found f kind number s ≡ found_field key code len place stop
   pub shows : (i : ℕ) → element_at code i (fetched f kind number s) ≡ shown_at code xs i
   pub count : length xs ≡ vectors * len
 
@@ -74,4 +73,4 @@ pub record ShownFetched (f : Facts) (s : List ℕ) (t : Site) : Type 0 where
   pub formats : length (shown_of t s).formats ≡ t.formats
   pub format : (i : ℕ) (d : Field) → i < t.formats → GivesField f s i t.people (get_or (shown_of t s).formats i d)
   -- a number that is no field's is refused with 16
-  pub no_more : (kind : Kind) (i : ℕ) → count_of kind t ≤ i → found f kind i s ≡ Refused (refusal 16 0)
+  pub no_more : (kind : Kind) (i : ℕ) → count_of kind t ≤ i → found f kind i s ≡ Err (refusal 16 0)

@@ -10,7 +10,8 @@ use lib.ListN.{length}
 use borrow.Author.Tests.{le-ltb, ltb-false}
 use Rattle.words.specs.Pick.{pick}
 use Rattle.hexadecimal.specs.Hexadecimal.{digits, eights, choice_of, choice_answered}
-use Rattle.hexadecimal.specs.declared.ChoiceLine.TheVariants.{People, Bad, NoRoom}
+use Rattle.hexadecimal.specs.declared.LineError.TheVariants.{Bad, NoRoom}
+use Rattle.std.specs.Prelude.{Ok, Err}
 use Rattle.hexadecimal.proofs.Digits.{length_eights}
 use Rattle.facts.specs.declared.Facts.{Facts}
 use Rattle.cuts.specs.Release.{release_line}
@@ -38,45 +39,45 @@ choice_most l cs h = by-long (ltb 240000 (length l)) refl h
         omega (arith, q, length_eights (length l / 8) l, ltb-false 240000 (length l) k)
 
 -- so many people told
-pub people_told : (room : ℕ) (o : Option (List ℕ)) (f : Facts) (n : ℕ) → choice_answered room o ≡ People n
+pub people_told : (room : ℕ) (o : Option (List ℕ)) (f : Facts) (n : ℕ) → choice_answered room o ≡ Ok n
     → (stage_chosen f o ≡ Records f n) × (text_chosen f o ≡ release_line f n)
 people_told room none f n h = let z : ◌≡◌ {A = ℕ} 0 1 = cc in absurd (omega arith)
 people_told room (some cs) f n h = by-room (ltb room (length cs)) h
   where
-    by-room : (b : Bool) → pick b NoRoom (People (length cs)) ≡ People n
+    by-room : (b : Bool) → pick b (Err NoRoom) (Ok (length cs)) ≡ Ok n
         → (stage_chosen f (some cs) ≡ Records f n) × (text_chosen f (some cs) ≡ release_line f n)
     by-room true k = let z : ◌≡◌ {A = ℕ} 0 1 = cc in absurd (omega arith)
     by-room false k = let q : length cs ≡ n = cc in (rw q, rw q)
 
-pub people_most : (room : ℕ) (l : List ℕ) (n : ℕ) → choice_answered room (choice_of l) ≡ People n → n ≤ 30000
+pub people_most : (room : ℕ) (l : List ℕ) (n : ℕ) → choice_answered room (choice_of l) ≡ Ok n → n ≤ 30000
 people_most room l n h = by-choice (choice_of l) refl h
   where
-    by-room : (cs : List ℕ) → length cs ≤ 30000 → (b : Bool) → pick b NoRoom (People (length cs)) ≡ People n → n ≤ 30000
+    by-room : (cs : List ℕ) → length cs ≤ 30000 → (b : Bool) → pick b (Err NoRoom) (Ok (length cs)) ≡ Ok n → n ≤ 30000
     by-room cs m true k = let z : ◌≡◌ {A = ℕ} 0 1 = cc in absurd (omega arith)
     by-room cs m false k = let q : length cs ≡ n = cc in omega arith
 
-    by-choice : (o : Option (List ℕ)) → choice_of l ≡ o → choice_answered room o ≡ People n → n ≤ 30000
+    by-choice : (o : Option (List ℕ)) → choice_of l ≡ o → choice_answered room o ≡ Ok n → n ≤ 30000
     by-choice none e k = let z : ◌≡◌ {A = ℕ} 0 1 = cc in absurd (omega arith)
     by-choice (some cs) e k = by-room cs (choice_most l cs e) (ltb room (length cs)) k
 
 -- a bad line
-pub choice_bad : (room : ℕ) (o : Option (List ℕ)) → choice_answered room o ≡ Bad → o ≡ none
+pub choice_bad : (room : ℕ) (o : Option (List ℕ)) → choice_answered room o ≡ Err Bad → o ≡ none
 choice_bad room none h = refl
 choice_bad room (some cs) h = by-room (ltb room (length cs)) h
   where
-    by-room : (b : Bool) → pick b NoRoom (People (length cs)) ≡ Bad → some cs ≡ none
+    by-room : (b : Bool) → pick b (Err NoRoom) (Ok (length cs)) ≡ Err Bad → some cs ≡ none
     by-room true k = cc
     by-room false k = cc
 
 -- a buffer of 30,000 is never too short
-pub choice_room : (room : ℕ) (l : List ℕ) → 30000 ≤ room → choice_answered room (choice_of l) ≡ NoRoom → ⊥
+pub choice_room : (room : ℕ) (l : List ℕ) → 30000 ≤ room → choice_answered room (choice_of l) ≡ Err NoRoom → ⊥
 choice_room room l r h = by-choice (choice_of l) refl h
   where
-    by-choice : (o : Option (List ℕ)) → choice_of l ≡ o → choice_answered room o ≡ NoRoom → ⊥
+    by-choice : (o : Option (List ℕ)) → choice_of l ≡ o → choice_answered room o ≡ Err NoRoom → ⊥
     by-choice none e k = let z : ◌≡◌ {A = ℕ} 0 1 = cc in omega arith
     by-choice (some cs) e k =
         let m = choice_most l cs e in
         let q : ltb room (length cs) ≡ false = le-ltb room (length cs) (omega arith) in
-        let b : People (length cs) ≡ NoRoom = rw q at k in
+        let b : Ok (length cs) ≡ Err NoRoom = rw q at k in
         let z : ◌≡◌ {A = ℕ} 0 1 = cc in
         omega arith

@@ -18,34 +18,33 @@ use Rattle.stores.proofs.Room.{filled_room}
 use Rattle.hexadecimal.specs.Hexadecimal.{frame_of}
 use Rattle.capitals.specs.Capitals.{capitals}
 use Rattle.capitals.proofs.Turns.{length_capitals}
-use Rattle.values.specs.Answers.{refusal}
+use Rattle.values.specs.Answers.{refusal, Answer}
 use Rattle.values.specs.declared.Refusal.{Refusal}
 use Rattle.facts.specs.declared.Facts.{Facts}
 use Rattle.fixed.specs.declared.Site.{Site}
 use Rattle.genotypes.specs.declared.Gt.{Gt}
-use Rattle.record.specs.Reading.{reading}
-use Rattle.record.specs.declared.Reading.{Reading}
-use Rattle.record.specs.declared.Reading.TheVariants.{Accepted, Refused as Unread}
+use Rattle.record.specs.Reading.{reading, accepted_as}
 use Rattle.choice.specs.Choice.{ascending}
 use Rattle.choose.specs.Chosen.{chosen_record}
 use Rattle.choose.specs.Choose.{chosen_length, answer_of, choosing, chosen_buffer, buffer_of, after_choosing}
-use Rattle.choose.specs.declared.Choosing.TheVariants.{Chosen, Refused}
 use Rattle.frames.specs.Text.{no_line, bad_line}
 use Rattle.frames.specs.Frames.{text_room, said, said_in}
-use Rattle.frames.specs.declared.Answer.TheVariants.{Text}
+use Rattle.std.proofs.Common.{Some}
 use Rattle.cuts.specs.Cuts.{record_text, cut_reading, cut_record, cut_line, kept_reading, kept_record, line_room}
 use Rattle.cuts.specs.Engine.{followed}
 use Rattle.cuts.proofs.Fronts.{accepted_followed, accepted_inside}
+use Rattle.std.specs.Prelude.{Err, Ok}
+use Rattle.record.specs.declared.Reading.{Reading}
 use Rattle.cuts.proofs.Shorter.{chosen_shorter}
 
 -- a record that is refused
-pub unread_said : (f : Facts) (cs buf bs : List ℕ) (r : Refusal) → reading f bs ≡ Unread r
+pub unread_said : (f : Facts) (cs buf bs : List ℕ) (r : Refusal) → reading f bs ≡ Err r
     → (cut_record f cs bs ≡ no_line (r.number ∷ r.place ∷ [])) × (kept_record f cs buf bs ≡ buf)
 unfolding cut_record kept_record
 unread_said f cs buf bs r h = (rw h, rw h)
 
 -- an accepted record that bytes follow
-pub followed_said : (f : Facts) (cs buf bs : List ℕ) (t : Site) (g : Gt) → followed bs ≡ true → reading f bs ≡ Accepted t g
+pub followed_said : (f : Facts) (cs buf bs : List ℕ) (t : Site) (g : Gt) → followed bs ≡ true → reading f bs ≡ accepted_as t g
     → (cut_record f cs bs ≡ bad_line) × (kept_record f cs buf bs ≡ buf)
 unfolding cut_record kept_record
 followed_said f cs buf bs t g w h = let q = sym (accepted_followed f bs t g h) ∙ w in (rw (h, q), rw (h, q))
@@ -55,13 +54,13 @@ pub stored_front : (buf r : List ℕ) → length r ≤ length buf → take (leng
 stored_front buf r h = rw (sets-eq r buf 0 (omega arith), take-append_seam)
 
 -- a record that no bytes follow, chosen from into a buffer that has room for it
-pub chosen_said : (f : Facts) (cs buf bs : List ℕ) (n : ℕ) → followed bs ≡ false → length bs ≤ length buf → choosing f cs (length buf) bs ≡ Chosen n
+pub chosen_said : (f : Facts) (cs buf bs : List ℕ) (n : ℕ) → followed bs ≡ false → length bs ≤ length buf → choosing f cs (length buf) bs ≡ Ok n
     → (cut_record f cs bs ≡ record_text (take n (after_choosing f cs buf bs))) × (kept_record f cs buf bs ≡ after_choosing f cs buf bs) × (n ≤ length bs)
 unfolding cut_record kept_record choosing after_choosing
 chosen_said f cs buf bs n w room h = by-reading (reading f bs) refl h
   where
-    by-choice : (t : Site) (g : Gt) → reading f bs ≡ Accepted t g → (b : Bool) → ascending t.people cs ≡ b
-        → pick b (chosen_length (length buf) (chosen_record t cs bs)) (Refused (refusal 14 0)) ≡ Chosen n
+    by-choice : (t : Site) (g : Gt) → reading f bs ≡ accepted_as t g → (b : Bool) → ascending t.people cs ≡ b
+        → pick b (chosen_length (length buf) (chosen_record t cs bs)) (Err (refusal 14 0)) ≡ Ok n
         → (pick b (record_text (chosen_record t cs bs)) (no_line (14 ∷ 0 ∷ [])) ≡ record_text (take n (pick b (chosen_buffer buf (chosen_record t cs bs)) buf)))
         × (pick b (sets buf 0 (chosen_record t cs bs)) buf ≡ pick b (chosen_buffer buf (chosen_record t cs bs)) buf)
         × (n ≤ length bs)
@@ -71,25 +70,25 @@ chosen_said f cs buf bs n w room h = by-reading (reading f bs) refl h
         let i = accepted_inside f bs t g e in
         let s = chosen_shorter t cs bs i.0 i.1 a in
         let q : ltb (length buf) (length r) ≡ false = le-ltb (length buf) (length r) (omega (arith, i)) in
-        let c : Chosen (length r) ≡ Chosen n = rw q at k in
+        let c : Ok (length r) ≡ Ok n = rw q at k in
         let m : length r ≡ n = cc in
         (rw (q, ← m, stored_front buf r (omega (arith, i))), rw q, omega (arith, i))
 
-    by-reading : (x : Reading) → reading f bs ≡ x → answer_of cs (length buf) bs x ≡ Chosen n
+    by-reading : (x : Answer Reading) → reading f bs ≡ x → answer_of cs (length buf) bs x ≡ Ok n
         → (cut_reading cs bs x ≡ record_text (take n (buffer_of cs buf bs x))) × (kept_reading cs buf bs x ≡ buffer_of cs buf bs x) × (n ≤ length bs)
-    by-reading (Unread r) e k = let z : ◌≡◌ {A = ℕ} 0 1 = cc in absurd (omega arith)
-    by-reading (Accepted t g) e k =
-        let q : ltb t.length (length bs) ≡ false = sym (accepted_followed f bs t g e) ∙ w in
-        rw q (by-choice t g e (ascending t.people cs) refl k)
+    by-reading (Err r) e k = let z : ◌≡◌ {A = ℕ} 0 1 = cc in absurd (omega arith)
+    by-reading (Ok a) e k =
+        let q : ltb a.site.length (length bs) ≡ false = sym (accepted_followed f bs a.site a.gt e) ∙ w in
+        rw q (by-choice a.site a.gt e (ascending a.site.people cs) refl k)
 
 pub refused_said : (f : Facts) (cs buf bs : List ℕ) (r : Refusal) → followed bs ≡ false → length bs ≤ length buf
-    → choosing f cs (length buf) bs ≡ Refused r
+    → choosing f cs (length buf) bs ≡ Err r
     → (cut_record f cs bs ≡ no_line (r.number ∷ r.place ∷ [])) × (kept_record f cs buf bs ≡ after_choosing f cs buf bs)
 unfolding cut_record kept_record choosing after_choosing
 refused_said f cs buf bs r w room h = by-reading (reading f bs) refl h
   where
-    by-choice : (t : Site) (g : Gt) → reading f bs ≡ Accepted t g → (b : Bool) → ascending t.people cs ≡ b
-        → pick b (chosen_length (length buf) (chosen_record t cs bs)) (Refused (refusal 14 0)) ≡ Refused r
+    by-choice : (t : Site) (g : Gt) → reading f bs ≡ accepted_as t g → (b : Bool) → ascending t.people cs ≡ b
+        → pick b (chosen_length (length buf) (chosen_record t cs bs)) (Err (refusal 14 0)) ≡ Err r
         → (pick b (record_text (chosen_record t cs bs)) (no_line (14 ∷ 0 ∷ [])) ≡ no_line (r.number ∷ r.place ∷ []))
         × (pick b (sets buf 0 (chosen_record t cs bs)) buf ≡ pick b (chosen_buffer buf (chosen_record t cs bs)) buf)
     by-choice t g e false a k = let m : refusal 14 0 ≡ r = cc in (rw (← m), refl)
@@ -97,19 +96,19 @@ refused_said f cs buf bs r w room h = by-reading (reading f bs) refl h
         let i = accepted_inside f bs t g e in
         let s = chosen_shorter t cs bs i.0 i.1 a in
         let q : ltb (length buf) (length (chosen_record t cs bs)) ≡ false = le-ltb (length buf) (length (chosen_record t cs bs)) (omega (arith, i)) in
-        let c : Chosen (length (chosen_record t cs bs)) ≡ Refused r = rw q at k in
+        let c : Ok (length (chosen_record t cs bs)) ≡ Err r = rw q at k in
         let z : ◌≡◌ {A = ℕ} 0 1 = cc in
         absurd (omega arith)
 
-    by-reading : (x : Reading) → reading f bs ≡ x → answer_of cs (length buf) bs x ≡ Refused r
+    by-reading : (x : Answer Reading) → reading f bs ≡ x → answer_of cs (length buf) bs x ≡ Err r
         → (cut_reading cs bs x ≡ no_line (r.number ∷ r.place ∷ [])) × (kept_reading cs buf bs x ≡ buffer_of cs buf bs x)
-    by-reading (Unread r') e k = let m : r' ≡ r = cc in (rw m, refl)
-    by-reading (Accepted t g) e k =
-        let q : ltb t.length (length bs) ≡ false = sym (accepted_followed f bs t g e) ∙ w in
-        rw q (by-choice t g e (ascending t.people cs) refl k)
+    by-reading (Err r') e k = let m : r' ≡ r = cc in (rw m, refl)
+    by-reading (Ok a) e k =
+        let q : ltb a.site.length (length bs) ≡ false = sym (accepted_followed f bs a.site a.gt e) ∙ w in
+        rw q (by-choice a.site a.gt e (ascending a.site.people cs) refl k)
 
 -- a line that frames says, where there is room
-pub said_as : (out text line : List ℕ) → line_room ≤ length out → line ≡ text → said (length out) text ≡ Text (length line)
+pub said_as : (out text line : List ℕ) → line_room ≤ length out → line ≡ text → said (length out) text ≡ Some (length line)
 unfolding said
 said_as out text line h e = rw (le-ltb (length out) text_room (omega arith), e)
 

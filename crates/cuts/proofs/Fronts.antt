@@ -10,17 +10,16 @@ use Rattle.facts.specs.declared.Facts.{Facts}
 use Rattle.fixed.specs.declared.Site.{Site}
 use Rattle.fixed.proofs.Fits.{fits_blocks}
 use Rattle.genotypes.specs.declared.Gt.{Gt}
-use Rattle.record.specs.Reading.{reading}
-use Rattle.record.specs.declared.Reading.TheVariants.{Accepted}
+use Rattle.record.specs.Reading.{reading, accepted_as}
 use Rattle.record.proofs.Accepted.{accepted_fits}
 use Rattle.cuts.specs.Engine.{goes_on, followed}
 
 -- bytes follow an accepted record where its length is less than the list's
-pub accepted_followed : (f : Facts) (s : List ℕ) (t : Site) (g : Gt) → reading f s ≡ Accepted t g → followed s ≡ ltb t.length (length s)
+pub accepted_followed : (f : Facts) (s : List ℕ) (t : Site) (g : Gt) → reading f s ≡ accepted_as t g → followed s ≡ ltb t.length (length s)
 unfolding followed
 accepted_followed f s t g h = ap (goes_on (length s)) (fits_blocks f s t (accepted_fits f s t g h))
 
-pub accepted_inside : (f : Facts) (s : List ℕ) (t : Site) (g : Gt) → reading f s ≡ Accepted t g → (t.border ≤ t.length) × (t.length ≤ length s)
+pub accepted_inside : (f : Facts) (s : List ℕ) (t : Site) (g : Gt) → reading f s ≡ accepted_as t g → (t.border ≤ t.length) × (t.length ≤ length s)
 accepted_inside f s t g h =
     let x = accepted_fits f s t g h in
     let a = x.border in

@@ -11,7 +11,7 @@ use Rattle.stores.specs.Stores.{filled}
 use Rattle.stores.proofs.Room.{filled_room}
 use Rattle.facts.specs.declared.Facts.{Facts}
 use Rattle.hexadecimal.specs.Hexadecimal.{facts_of}
-use Rattle.hexadecimal.specs.declared.FactsLine.TheVariants.{Facts as Said}
+use Rattle.std.specs.Prelude.{Some}
 use Rattle.capitals.specs.Capitals.{capitals, high_first, eight}
 use Rattle.capitals.proofs.Back.{digits_capitals, bytes_high, big_eight}
 use Rattle.capitals.proofs.Turns.{length_capitals}
@@ -59,7 +59,7 @@ release_stored out f n h =
 
 -- the release's first line without its line feed gives the header's facts, with the people chosen
 pub release_read : (f : Facts) (n : ℕ) → f.strings < 2 ^ 32 → f.contigs < 2 ^ 32 → n < 2 ^ 32 → f.gt < 2 ^ 32
-    → facts_of (take 32 (release_line f n)) ≡ Said (record { strings = f.strings; contigs = f.contigs; people = n; gt = f.gt })
+    → facts_of (take 32 (release_line f n)) ≡ Some (record { strings = f.strings; contigs = f.contigs; people = n; gt = f.gt })
 unfolding release_line facts_of capitals high_first
 release_read f n s c p g =
     let last = high_first f.gt ++ [] in

@@ -1,30 +1,31 @@
 -- The cutting program's step: what a line, and the end of the input, add to the text that waits, and where the input stands then. Rests on specs/Cuts
 -- and Release.
-use Rattle.std.specs.Prelude.{ℕ, ◌+◌, ◌≤◌, List, [], ◌∷◌, ◌++◌, Bool, false, ltb, length, take}
+use Rattle.std.specs.Prelude.{ℕ, ◌+◌, List, [], ◌∷◌, ◌++◌, Bool, false, ltb, length, take}
 use Rattle.std.proofs.Math.Option.{Option, none, some}
 use Rattle.std.proofs.lemmas.List.Edits.{sets}
 use Rattle.words.specs.Pick.{pick}
 use Rattle.stores.specs.Stores.{fits}
 use Rattle.hexadecimal.specs.Hexadecimal.{facts_of, choice_of, frame_of, stored}
-use Rattle.hexadecimal.specs.declared.FactsLine.{FactsLine}
-use Rattle.hexadecimal.specs.declared.FactsLine.TheVariants.{Facts as AreFacts, NoFacts}
+use Rattle.std.specs.Prelude.{Option as StdOption, Some, None}
 use Rattle.facts.specs.declared.Facts.{Facts}
 use Rattle.frames.specs.Text.{bad_line}
 use Rattle.cuts.specs.Cuts.{cut_line, kept_frame, record_room, line_room}
 use Rattle.cuts.specs.Release.{release_line}
 use Rattle.cuts.specs.declared.Stage.{Stage}
 use Rattle.cuts.specs.declared.Stage.TheVariants.{First, Choice, Records, BadFirst, BadChoice}
-use Rattle.cuts.specs.declared.Stepped.{Stepped}
-use Rattle.cuts.specs.declared.Stepped.TheVariants.{Next, NoRoom}
+use Rattle.cuts.specs.declared.BadLine.{BadLine}
+use Rattle.cuts.specs.declared.BadLine.TheVariants.{First as FirstLine, Second as SecondLine}
+use Rattle.frames.specs.Steps.{next}
+use Rattle.frames.specs.declared.Next.{Next}
 
 -- where the input stands after its first line, and what that line adds: a choice follows the facts; a line that isn't 32 digits is `bad` and ends it
-abbrev pub stage_opened : FactsLine → Stage
-stage_opened (AreFacts f) = Choice f
-stage_opened NoFacts = BadFirst
+abbrev pub stage_opened : StdOption Facts → Stage
+stage_opened (Some f) = Choice f
+stage_opened None = BadFirst
 
-abbrev pub text_opened : FactsLine → List ℕ
-text_opened (AreFacts f) = []
-text_opened NoFacts = bad_line
+abbrev pub text_opened : StdOption Facts → List ℕ
+text_opened (Some f) = []
+text_opened None = bad_line
 
 -- the same of the second line: records follow the choice, after the release's first line; a line that is no choice is `bad` and ends it
 abbrev pub stage_chosen : Facts → Option (List ℕ) → Stage
@@ -88,12 +89,12 @@ end_text BadFirst = []
 end_text BadChoice = []
 
 -- a bad or absent line has ended it: the first, or the second
-abbrev pub ended : Stage → ℕ
-ended First = 0
-ended (Choice f) = 0
-ended (Records f n) = 0
-ended BadFirst = 1
-ended BadChoice = 2
+abbrev pub ended : Stage → StdOption BadLine
+ended First = None
+ended (Choice f) = None
+ended (Records f n) = None
+ended BadFirst = Some FirstLine
+ended BadChoice = Some SecondLine
 
 -- the texts of all the steps over some lines
 unfoldable pub text_from : List ℕ → Stage → List (List ℕ) → List ℕ
@@ -119,25 +120,15 @@ step_room choice frame chosen out waiting stage =
     (fits out waiting line_room))))
 
 -- what is answered to a line, and each buffer then; nothing is stored where one is too short
-unfoldable pub stepped : Bool → ℕ → List ℕ → Stage → List ℕ → Stepped
-stepped room waiting choice stage line = pick room (Next (stage_after stage line) (waiting + length (line_text choice stage line))) NoRoom
+unfoldable pub stepped : Bool → ℕ → List ℕ → Stage → List ℕ → StdOption (Next Stage)
+stepped room waiting choice stage line = pick room (next (stage_after stage line) (waiting + length (line_text choice stage line))) None
 
 unfoldable pub stepped_out : Bool → ℕ → List ℕ → List ℕ → Stage → List ℕ → List ℕ
 stepped_out room waiting out choice stage line = pick room (sets out waiting (line_text choice stage line)) out
 
 -- what is answered to the end of the input, and the buffer then
-unfoldable pub finished : ℕ → ℕ → Stage → Stepped
-finished out waiting stage = pick (fits out waiting line_room) (Next (stage_at_end stage) (waiting + length (end_text stage))) NoRoom
+unfoldable pub finished : ℕ → ℕ → Stage → StdOption (Next Stage)
+finished out waiting stage = pick (fits out waiting line_room) (next (stage_at_end stage) (waiting + length (end_text stage))) None
 
 unfoldable pub finished_out : List ℕ → ℕ → Stage → List ℕ
 finished_out out waiting stage = pick (fits (length out) waiting line_room) (sets out waiting (end_text stage)) out
-
--- the text that waits lies in its buffer
-abbrev pub StepInside : ℕ → Stepped → Type 0
-StepInside end (Next stage waiting) = waiting ≤ end
-StepInside end NoRoom = Unit {0}
-
--- a step in 01's terms, its number and its value: number 0 and how much text waits; 13 at place 0 where a buffer is too short
-abbrev pub step_told : Stepped → ℕ × ℕ
-step_told (Next stage waiting) = (0, waiting)
-step_told NoRoom = (13, 0)

@@ -1,13 +1,16 @@
 -- Laws of decimal text: what it is below ten and from ten on, its length, its first digit, and that it says its number.
 -- Rests on specs/Decimal.
-use mathlib.Core.Path.{◌≡◌, refl}
-use mathlib.Core.List.{List, [], ◌∷◌, ◌++◌}
+use mathlib.Core.Path.{◌≡◌, refl, ap}
+use mathlib.Core.List.{List, [], ◌∷◌, ◌++◌, append-nil, append_assoc}
 use mathlib.Core.Bool.{Bool, true, false}
 use Prim.Native.Nat.{ℕ, zero, suc, ◌+◌, ◌-◌, ◌*◌, ◌/◌, ◌%◌, ◌^◌, ◌<◌, ◌≤◌}
 use native.Mathlib.Nat.{pow-suc, div-lt_iff_lt-mul, mul_assoc}
 use native.Mathlib.Omega.{arith}
+use native.Mathlib.Numerals.{add-one, sub-one}
 use lib.Dec.{ltb, lit<}
-use lib.ListN.{length, get_or, length-append, get_or-append}
+use lib.ListN.{length, get_or, set, drop, length-append, length-set, get_or-append, drop_of_length-le}
+use lib.Seq.{drop-cons}
+use Rattle.std.proofs.lemmas.List.{get_or-set_same, drop-set-lt}
 use borrow.Author.Tests.{lt-ltb, le-ltb, ltb-true, ltb-false}
 use Rattle.words.specs.Pick.{pick}
 use Rattle.decimal.specs.Decimal.{figure, in_decimal, decimal, value}
@@ -100,3 +103,49 @@ says =
     by_tens (λ n. value (decimal n) ≡ n)
     (λ n h. rw (below_ten n h) (omega arith))
     (λ n h i. rw (from_ten n h, value_more, i) (omega arith))
+
+some_power : (k : ℕ) → 0 < 10 ^ k
+some_power zero = omega arith
+some_power (suc k) = let p = some_power k in rw pow-suc (omega arith)
+
+-- how many digits a number has, by the power of ten that it reaches
+pub digits_of : (n k : ℕ) → 10 ^ k ≤ n → n < 10 * 10 ^ k → length (decimal n) ≡ k + 1
+digits_of =
+    by_tens (λ n. (k : ℕ) → 10 ^ k ≤ n → n < 10 * 10 ^ k → length (decimal n) ≡ k + 1)
+    below
+    further
+  where
+    below : (n : ℕ) → n < 10 → (k : ℕ) → 10 ^ k ≤ n → n < 10 * 10 ^ k → length (decimal n) ≡ k + 1
+    below n h zero l g = one_digit n h
+    below n h (suc k) l g = let q : 10 ^ k * 10 ≤ n = rw pow-suc at l in let p = some_power k in absurd (omega arith)
+
+    further : (n : ℕ) → 10 ≤ n → ((k : ℕ) → 10 ^ k ≤ n / 10 → n / 10 < 10 * 10 ^ k → length (decimal (n / 10)) ≡ k + 1)
+        → (k : ℕ) → 10 ^ k ≤ n → n < 10 * 10 ^ k → length (decimal n) ≡ k + 1
+    further n h i zero l g = absurd (omega arith)
+    further n h i (suc k) l g =
+        let q : 10 ^ k * 10 ≤ n = rw pow-suc at l in
+        let r : n < 10 * (10 ^ k * 10) = rw pow-suc at g in
+        omega (arith, digit_more n h, i k (omega arith) (omega arith))
+
+-- the text of a number is its so many low digits
+unfoldable pub low : ℕ → ℕ → List ℕ
+low zero n = []
+low (suc w) n = low w (n / 10) ++ (figure (n % 10) ∷ [])
+
+pub low_digits : (n : ℕ) → low (length (decimal n)) n ≡ decimal n
+unfolding low
+low_digits =
+    by_tens (λ n. low (length (decimal n)) n ≡ decimal n)
+    (λ n h. let e : n % 10 ≡ n = omega arith in rw (below_ten n h, e))
+    (λ n h i. rw (from_ten n h, length-append, add-one) (ap (λ (l : List ℕ). l ++ (figure (n % 10) ∷ [])) i))
+
+-- the digits stored so far, and the next one stored before them
+pub low_turn : (text : List ℕ) (i n : ℕ) → 0 < i → i ≤ length text
+    → low i n ++ drop i text ≡ low (i - 1) (n / 10) ++ drop (i - 1) (set text (i - 1) (figure (n % 10)))
+unfolding low
+low_turn text zero n h l = absurd (omega arith)
+low_turn text (suc i) n h l =
+    rw (sub-one, drop-cons (set text i (figure (n % 10))) i 0 (rw length-set l), get_or-set_same text i _ 0 l, drop-set-lt (suc i) text i _ (omega arith), append_assoc)
+
+pub low_all : (text : List ℕ) (n : ℕ) → length text ≡ length (decimal n) → low (length text) n ++ drop (length text) text ≡ decimal n
+low_all text n e = rw (drop_of_length-le text {i = length text} (omega arith), append-nil, e) (low_digits n)

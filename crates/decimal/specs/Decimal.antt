@@ -1,8 +1,6 @@
 -- Numbers as decimal text, and what is answered where a text is put. Rests on nothing but the choice by a test.
-use Rattle.std.specs.Prelude.{ℕ, zero, suc, ◌+◌, ◌-◌, ◌*◌, ◌/◌, ◌%◌, ◌^◌, ◌≤◌, List, [], ◌∷◌, ◌++◌, ltb, length}
+use Rattle.std.specs.Prelude.{ℕ, zero, suc, ◌+◌, ◌-◌, ◌*◌, ◌/◌, ◌%◌, ◌^◌, ◌≤◌, List, [], ◌∷◌, ◌++◌, Option, Some, None, ltb, length}
 use Rattle.words.specs.Pick.{pick}
-use Rattle.decimal.specs.declared.Put.{Put}
-use Rattle.decimal.specs.declared.Put.TheVariants.{At, NoRoom}
 
 -- the character of a digit, 0x30 for 0 to 0x39 for 9
 abbrev pub figure : ℕ → ℕ
@@ -25,15 +23,15 @@ value [] = 0
 value (c ∷ cs) = (c - 0x30) * 10 ^ length cs + value cs
 
 -- what is answered where a text is put at a place of a buffer of so many bytes: the place after it, where it has room
-unfoldable pub placed : ℕ → ℕ → List ℕ → Put
-placed room at text = pick (ltb room (at + length text)) NoRoom (At (at + length text))
+unfoldable pub placed : ℕ → ℕ → List ℕ → Option ℕ
+placed room at text = pick (ltb room (at + length text)) None (Some (at + length text))
 
 -- the place after a text lies in a buffer of so many bytes, or at its end
-abbrev pub PlaceInside : ℕ → Put → Type 0
-PlaceInside room (At q) = q ≤ room
-PlaceInside room NoRoom = Unit {0}
+abbrev pub PlaceInside : ℕ → Option ℕ → Type 0
+PlaceInside room (Some q) = q ≤ room
+PlaceInside room None = Unit {0}
 
 -- a text that was put, in 01's terms, its number and its value: number 0 and the place after the text; 13 at place 0 where it has no room
-abbrev pub put_told : Put → ℕ × ℕ
-put_told (At q) = (0, q)
-put_told NoRoom = (13, 0)
+abbrev pub put_told : Option ℕ → ℕ × ℕ
+put_told (Some q) = (0, q)
+put_told None = (13, 0)

@@ -2,82 +2,55 @@
 // Rests on words, for the way in which definitions choose.
 #![tactic(auto)]
 
-ghost use Rattle.std.specs.Prelude.{◌≡◌, [], ◌∷◌, ◌+◌, ◌≤◌, length};
-ghost use Rattle.std.proofs.lemmas.List.Edits.{sets};
-ghost use Rattle.decimal.specs.Decimal.{decimal, placed, PlaceInside, put_told};
+ghost use Rattle.std.specs.Prelude.{◌≡◌, [], ◌∷◌, length};
+ghost use Rattle.decimal.specs.Decimal.{decimal, placed, PlaceInside};
 ghost use Rattle.stores.specs.Stores.{filled};
 
-// A text put into a buffer: the place after it, or no room and nothing written.
-#[derive(Clone, Copy)]
-pub enum Put {
-    At(usize),
-    NoRoom,
-}
-
-// The place after a text that was put; place 0 where it had no room.
-pub fn place_after(p: Put) -> usize
-    ensures { result ≡ (put_told p).1 }
-{
-    match p {
-        Put::At(next) => next,
-        Put::NoRoom => 0,
-    }
-}
-
 // How many digits a number has: what is to be stored is known before the first byte of it.
+#[tactic(auto, using(crate::proofs::Decimal::digits_of, crate::proofs::Decimal::one_digit))]
 fn digits_in(n: u64) -> usize
     ensures { result ≡ length (decimal n) }
 {
-    let mut count: usize = 1;
-    let mut rest = n;
-    while 10 <= rest {
-        rest = rest / 10;
-        count += 1;
-    }
-    count
+    n.checked_ilog10().map_or(1, |more| more as usize + 1)
 }
 
-// Stores the text of a number that has `count` digits, the last digit first.
-fn store(buf: &mut [u8], at: usize, count: usize, n: u64)
-    requires { (count ≡ length (decimal n)) × (at + count ≤ length buf.old) }
-    ensures { buf.new ≡ sets buf.old at (decimal n) }
+// Stores the text of a number into a part of as many bytes as it has digits, the last digit first.
+#[tactic(auto, using(crate::proofs::Decimal::low_turn, crate::proofs::Decimal::low_all))]
+fn store(text: &mut [u8], n: u64)
+    requires { length text.old ≡ length (decimal n) }
+    ensures { text.new ≡ decimal n }
 {
-    let mut last = at + count - 1;
     let mut rest = n;
-    while 10 <= rest {
-        buf[last] = b'0' + (rest % 10) as u8;
-        rest = rest / 10;
-        last -= 1;
+    for i in (0..text.len()).rev() {
+        text[i] = b'0' + (rest % 10) as u8;
+        rest /= 10;
     }
-    buf[last] = b'0' + rest as u8;
 }
 
-// The text of a number, put at a place: the place after it, or no room and nothing written.
-pub fn put_decimal(buf: &mut [u8], at: usize, n: u64) -> Put
+// The text of a number, put at a place: the place after it, or none and nothing written where it has no room.
+#[tactic(auto, using(stores::proofs::Room::rooms, crate::proofs::Stores::placed_short, crate::proofs::Stores::placed_room))]
+pub fn put_decimal(buf: &mut [u8], at: usize, n: u64) -> Option<usize>
     ensures told { result ≡ placed (length buf.old) at (decimal n) }
     ensures inside { PlaceInside (length buf.old) result }
     ensures written { buf.new ≡ filled buf.old at (decimal n) }
 {
     let count = digits_in(n);
-    if buf.len() < at {
-        return Put::NoRoom;
+    if stores::has_room(buf.len(), at, count) {
+        store(&mut buf[at..at + count], n);
+        return Some(at + count);
     }
-    if buf.len() - at < count {
-        return Put::NoRoom;
-    }
-    store(buf, at, count, n);
-    Put::At(at + count)
+    None
 }
 
-// One byte, put at a place: the place after it, or no room and nothing written.
-pub fn put_byte(buf: &mut [u8], at: usize, b: u8) -> Put
+// One byte, put at a place: the place after it, or none and nothing written where it has no room.
+pub fn put_byte(buf: &mut [u8], at: usize, b: u8) -> Option<usize>
     ensures told { result ≡ placed (length buf.old) at (b ∷ []) }
     ensures inside { PlaceInside (length buf.old) result }
     ensures written { buf.new ≡ filled buf.old at (b ∷ []) }
 {
     if buf.len() <= at {
-        return Put::NoRoom;
+        return None;
     }
     buf[at] = b;
-    Put::At(at + 1)
+    Some(at + 1)
 }

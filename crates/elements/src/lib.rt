@@ -11,24 +11,21 @@ ghost use Rattle.types.specs.Elements.{kind, shown};
 
 use types::Element;
 
-// An element as it is shown: an integer of any width as a signed number with type 3's marks, a float's bits, a byte of text; or nothing past the
-// last one.
-#[derive(Clone, Copy)]
+// An element as it is shown: an integer of any width as a signed number with type 3's marks, a float's bits, a byte of text.
+#[derive(Clone, Copy, Debug, PartialEq, Eq)]
 pub enum Shown {
     Integer(i32),
     Float(u32),
     Text(u8),
-    Nothing,
 }
 
-// An element of GT: an allele's number, a missing allele, an end of vector; no call for a negative or a reserved code; or nothing past the last one.
-#[derive(Clone, Copy)]
+// An element of GT: an allele's number, a missing allele, an end of vector; no call for a negative or a reserved code.
+#[derive(Clone, Copy, Debug, PartialEq, Eq)]
 pub enum Call {
     Allele { number: u32, phased: bool },
     Missing { phased: bool },
     End,
     NoCall,
-    Nothing,
 }
 
 // The element of a type that stands at a place of a part, by the 32 bits that it is shown by; past the part's end each byte counts as 0.
@@ -37,16 +34,6 @@ pub fn bits_at(part: &[u8], at: usize, code: u8) -> u32
 {
     let row = types::row_of(code);
     types::shown_bits(code, words::word_at(part, at, row.width))
-}
-
-// The byte of text at an index from 0; nothing past the last one.
-fn text_at(part: &[u8], index: usize) -> Shown
-    ensures { result ≡ element_at 7 index part.now }
-{
-    if index < part.len() {
-        return Shown::Text(part[index]);
-    }
-    Shown::Nothing
 }
 
 // A float's bits as they are, an integer's as the signed number that they are.
@@ -60,22 +47,27 @@ fn number_shown(code: u8, bits: u32) -> Shown
     Shown::Integer(words::signed(bits))
 }
 
-// The element of a part at an index from 0 by the part's type: a signed number with type 3's marks, a float's bits, a byte of text; nothing past the
+// The element of a part at an index from 0 by the part's type: a signed number with type 3's marks, a float's bits, a byte of text; none past the
 // last one.
-pub fn element_at(part: &[u8], code: u8, index: usize) -> Shown
+#[tactic(auto, using(crate::proofs::Elements::element_text))]
+pub fn element_at(part: &[u8], code: u8, index: usize) -> Option<Shown>
     ensures { result ≡ element_at code index part.now }
 {
     if code == 7 {
-        return text_at(part, index);
+        return if index < part.len() {
+            Some(Shown::Text(part[index]))
+        } else {
+            None
+        };
     }
     let row = types::row_of(code);
     let w = row.width as usize;
     if words::over(part.len(), w) <= index {
-        return Shown::Nothing;
+        return None;
     }
     let at = index * w;
     let stop = at + w;
-    number_shown(code, types::shown_bits(code, words::word(&part[at..stop])))
+    Some(number_shown(code, types::shown_bits(code, words::word(&part[at..stop]))))
 }
 
 // What a code of GT says, given by its 32 bits: its allele is half of it, less one, and it is phased when odd; a negative one says nothing.
@@ -110,16 +102,15 @@ fn call_of(bits: u32) -> Call
     }
 }
 
-// The element of GT's part at an index from 0: an allele with its phase, a missing allele, an end of vector, or no call; nothing past the last one,
+// The element of GT's part at an index from 0: an allele with its phase, a missing allele, an end of vector, or no call; none past the last one,
 // and in a part of a type that GT cannot have.
-pub fn call_at(part: &[u8], code: u8, index: usize) -> Call
+#[tactic(auto, using(words::proofs::Sign::back), unfolding(crate::specs::Elements::call_at))]
+pub fn call_at(part: &[u8], code: u8, index: usize) -> Option<Call>
     ensures { result ≡ call_at code index part.now }
 {
-    let e = element_at(part, code, index);
-    match e {
-        Shown::Integer(z) => call_of(words::bits(z)),
-        Shown::Float(_) => Call::Nothing,
-        Shown::Text(_) => Call::Nothing,
-        Shown::Nothing => Call::Nothing,
+    match element_at(part, code, index)? {
+        Shown::Integer(z) => Some(call_of(words::bits(z))),
+        Shown::Float(_) => None,
+        Shown::Text(_) => None,
     }
 }

@@ -1,23 +1,19 @@
--- How long what is written is, that text is written as it is, and that integers with room are stored. Rests on the definitions of
--- specs/Encode and on stores.
-use mathlib.Core.Path.{◌≡◌, refl, ◌∙◌, sym}
+-- How long what is written is, that text is written as it is, and which elements have no bytes. Rests on the definitions of
+-- specs/Encode.
+use mathlib.Core.Path.{◌≡◌, refl, ap}
+use mathlib.Core.Logic.{◌≢◌}
 use mathlib.Core.List.{List, [], ◌∷◌, map}
 use mathlib.Core.Bool.{Bool, true, false}
-use Prim.Native.Nat.{ℕ, suc, ◌+◌, ◌*◌, ◌%◌, ◌<◌, ◌≤◌}
+use Prim.Native.Nat.{ℕ, zero, suc, ◌+◌, ◌*◌, ◌%◌, ◌<◌}
 use native.Mathlib.Omega.{arith}
 use native.Mathlib.Nat.{suc-mul, zero-mul}
 use lib.Dec.{ltb}
-use lib.IntN.{ℤ}
-use lib.ListN.{length, get_or, length-append, length-map}
-use lib.Seq.{sets}
-use mir.Syntax.{w8, w32}
-use mir.Val.{Fits, of_z}
+use lib.ListN.{length, get_or, length-append, length-map, replicate}
 use Rattle.words.specs.Pick.{pick}
 use Rattle.words.specs.Words.{bytes, Bytes}
 use Rattle.words.proofs.Words.{length_bytes}
-use Rattle.stores.specs.Stores.{fits, filled}
-use Rattle.stores.proofs.Room.{fits_room, filled_room}
-use Rattle.types.specs.Rows.{width_of, row_of}
+use Rattle.types.specs.Rows.{width_of, row_of, unused}
+use Rattle.types.specs.declared.Row.{Row}
 use Rattle.types.specs.Elements.{narrowest}
 use Rattle.encode.specs.Encode.{integer_bytes, descriptor_bytes, narrowed, elements_bytes, value_bytes}
 
@@ -59,17 +55,32 @@ text_elements (x ∷ xs) h =
     let q : x % 256 ≡ x = let p : x < 256 = h.0 in omega arith in
     rw (q, text_elements xs h.1)
 
--- each number of lent text is a byte
-pub text_Bytes : (xs : List ℕ) → ((i : ℕ) → Fits w8 (get_or xs i 0)) → Bytes xs
-text_Bytes [] h = tt
-text_Bytes (x ∷ xs) h = ((h 0).fits, text_Bytes xs (λ i. h (suc i)))
+-- a type that is none of these has no width, and its elements no bytes
+elements_none : (t : ℕ) → width_of t ≡ 0 → (xs : List ℕ) → elements_bytes t xs ≡ []
+unfolding elements_bytes bytes
+elements_none t e [] = refl
+elements_none t e (x ∷ xs) = rw (e, elements_none t e xs)
 
--- integers that have room are stored, and that is told
-pub integers_stored : (buf : List ℕ) (at t w : ℕ) (zs : List ℤ) → w ≡ width_of t → at + length zs * w ≤ length buf → {out : List ℕ}
-    → out ≡ sets buf at (elements_bytes t (map (of_z w32) zs))
-    → (true ≡ fits (length buf) at (length (elements_bytes t (map (of_z w32) zs)))) × (out ≡ filled buf at (elements_bytes t (map (of_z w32) zs)))
-integers_stored buf at t w zs e h o =
-    let xs = map (of_z w32) zs in
-    let n : length (elements_bytes t xs) ≡ length zs * w = length_elements_bytes t xs ∙ rw (length-map zs (of_z w32), e) in
-    let s : at + length (elements_bytes t xs) ≤ length buf = omega (arith, h, n) in
-    (sym (fits_room _ _ _ s), o ∙ sym (filled_room _ _ _ s))
+width_other : (t : ℕ) → t ≢ 1 → t ≢ 2 → t ≢ 3 → t ≢ 5 → t ≢ 7 → width_of t ≡ 0
+unfolding width_of row_of
+width_other zero a b d e f = refl
+width_other (suc zero) a b d e f = absurd (a refl)
+width_other (suc (suc zero)) a b d e f = absurd (b refl)
+width_other (suc (suc (suc zero))) a b d e f = absurd (d refl)
+width_other (suc (suc (suc (suc zero)))) a b d e f = refl
+width_other (suc (suc (suc (suc (suc zero))))) a b d e f = absurd (e refl)
+width_other (suc (suc (suc (suc (suc (suc zero)))))) a b d e f = refl
+width_other (suc (suc (suc (suc (suc (suc (suc zero))))))) a b d e f = absurd (f refl)
+width_other (suc (suc (suc (suc (suc (suc (suc (suc t)))))))) a b d e f = ap (λ (r : Row). r.width) (get_or_replicate 8 t)
+  where
+    get_or_replicate : (n t : ℕ) → get_or (replicate n unused) t unused ≡ unused
+    get_or_replicate zero t = refl
+    get_or_replicate (suc n) zero = refl
+    get_or_replicate (suc n) (suc t) = get_or_replicate n t
+
+pub elements_other : (t : ℕ) (xs : List ℕ) → t ≢ 1 → t ≢ 2 → t ≢ 3 → t ≢ 5 → t ≢ 7 → elements_bytes t xs ≡ []
+elements_other t xs a b d e f = elements_none t (width_other t a b d e f) xs
+
+-- the room that elements want is as many bytes as they take
+pub length_elements : {X : Type 0} (shown : X → ℕ) (t w : ℕ) (vs : List X) → w ≡ width_of t → length (elements_bytes t (map shown vs)) ≡ length vs * w
+length_elements shown t w vs e = rw (length_elements_bytes t (map shown vs), length-map, e)

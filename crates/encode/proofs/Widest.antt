@@ -5,20 +5,20 @@ use mathlib.Core.List.{List, [], ◌∷◌, map}
 use mathlib.Core.Bool.{Bool, true, false, ◌&&◌}
 use Prim.Native.Nat.{ℕ, ◌+◌, ◌-◌, ◌<◌, ◌≤◌, max}
 use native.Mathlib.Omega.{arith}
-use native.Mathlib.Numerals.{add-one}
 use lib.Dec.{ltb, leb, eqb}
-use lib.ListN.{length, get_or, drop, drop_of_length-le, length-map}
+use lib.ListN.{length, get_or, take, length-map}
 use lib.IntN.{ℤ, pos}
 use mir.Syntax.{w32}
 use mir.Val.{of_z}
-use lib.Seq.{drop-cons}
 use borrow.Author.Tests.{ltb-false, eqb-true, eqb-false, leb-true, leb-false, le-leb, lt-leb}
 use Rattle.words.specs.Pick.{pick}
 use Rattle.words.proofs.Sign.{bits_at}
 use Rattle.types.specs.Elements.{marked, kind, narrowest}
 use Rattle.types.specs.declared.Element.TheVariants.{Plain, Missing, End, Reserved}
 use Rattle.encode.specs.Encode.{type_for, widest}
-use Rattle.encode.specs.Engine.{is_mark}
+use Rattle.encode.specs.Engine.{is_mark, taken}
+use Rattle.std.specs.List.{list_all}
+use Rattle.std.proofs.lemmas.List.Folds.{list_all_more}
 
 -- a number that is neither mark of type 3
 type_plain : (x : ℕ) → x ≢ 0x80000000 → x ≢ 0x80000001 → type_for (kind 3 x) x ≡ narrowest x
@@ -58,8 +58,8 @@ type_any x = by-marks (eqb x 0x80000000) (eqb x 0x80000001) refl refl
     by-marks false false p q = type_plain x (eqb-false _ _ p) (eqb-false _ _ q)
 
 -- types 1 and 2 take what is in their range, and the marks
-pub fits_1 : (x : ℕ) → leb (type_for (kind 3 x) x) 1 ≡ pick (leb x 127) true (pick (leb 0xFFFFFF88 x) true (is_mark x))
-unfolding narrowest
+fits_1 : (x : ℕ) → leb (type_for (kind 3 x) x) 1 ≡ taken 127 0xFFFFFF88 x
+unfolding narrowest taken
 fits_1 x = rw (type_any x) (by_tests (leb x 127) (leb 0xFFFFFF88 x) (leb x 32767) (leb 0xFFFF8008 x) (is_mark x))
   where
     by_tests : (a b d e m : Bool) → leb (pick m 1 (pick a 1 (pick b 1 (pick d 2 (pick e 2 3))))) 1 ≡ pick a true (pick b true m)
@@ -73,8 +73,8 @@ fits_1 x = rw (type_any x) (by_tests (leb x 127) (leb 0xFFFFFF88 x) (leb x 32767
     by_tests false false false true false = refl
     by_tests false false false false false = refl
 
-pub fits_2 : (x : ℕ) → leb (type_for (kind 3 x) x) 2 ≡ pick (leb x 32767) true (pick (leb 0xFFFF8008 x) true (is_mark x))
-unfolding narrowest
+fits_2 : (x : ℕ) → leb (type_for (kind 3 x) x) 2 ≡ taken 32767 0xFFFF8008 x
+unfolding narrowest taken
 fits_2 x = rw (type_any x) (by_tests (leb x 127) (leb 0xFFFFFF88 x) (leb x 32767) (leb 0xFFFF8008 x) (is_mark x) refl refl refl refl)
   where
     by_tests : (a b d e m : Bool) → leb x 127 ≡ a → leb 0xFFFFFF88 x ≡ b → leb x 32767 ≡ d → leb 0xFFFF8008 x ≡ e
@@ -121,33 +121,32 @@ leb_max a b t = by_tests (leb a t) (leb b t) refl refl
     by_tests true false hp hq = let r : t < b = leb-false _ _ hq in lt-leb (max a b) t (omega arith)
     by_tests false q hp hq = let l : t < a = leb-false _ _ hp in lt-leb (max a b) t (omega arith)
 
--- one integer more of a sweep, where some are left and where none is
-pub sweep_turn : (xs : List ℕ) (t i : ℕ) (b : Bool) → i < length xs
-    → b && leb (widest (drop i xs)) t ≡ (b && leb (type_for (kind 3 (get_or xs i 0)) (get_or xs i 0)) t) && leb (widest (drop (i + 1) xs)) t
-unfolding widest
-sweep_turn xs t i true h = rw (drop-cons xs i 0 h, add-one i, leb_max)
-sweep_turn xs t i false h = refl
+-- one integer more of a sweep
+pub swept_more : (test : ℕ → Bool) (zs : List ℤ) (i : ℕ) → i < length zs
+    → list_all test (take (i + 1) (map (of_z w32) zs)) ≡ (list_all test (take i (map (of_z w32) zs)) && test (of_z w32 (get_or zs i (pos 0))))
+swept_more test zs i h = rw (← bits_at zs i) (list_all_more test (map (of_z w32) zs) i 0 (rw length-map h))
 
-pub sweep_end : (xs : List ℕ) (t i : ℕ) (b : Bool) → length xs ≤ i → 1 ≤ t → b && leb (widest (drop i xs)) t ≡ b
+-- a type takes all where it takes the widest
+all_below : (t : ℕ) (test : ℕ → Bool) → 1 ≤ t → ((x : ℕ) → leb (type_for (kind 3 x) x) t ≡ test x) → (xs : List ℕ) → list_all test xs ≡ leb (widest xs) t
 unfolding widest
-sweep_end xs t i true h q = rw (drop_of_length-le xs {i = i} h, le-leb 1 t q)
-sweep_end xs t i false h q = refl
+all_below t test h e [] = rw (le-leb 1 t h)
+all_below t test h e (x ∷ xs) = rw (leb_max, ← e x, all_below t test h e xs)
 
--- the same of signed numbers, which are given by their bits
-pub sweep_turn_bits : (zs : List ℤ) (t i : ℕ) (b : Bool) → i < length zs
-    → b && leb (widest (drop i (map (of_z w32) zs))) t
-    ≡ (b && leb (type_for (kind 3 (of_z w32 (get_or zs i (pos 0)))) (of_z w32 (get_or zs i (pos 0)))) t) && leb (widest (drop (i + 1) (map (of_z w32) zs))) t
-sweep_turn_bits zs t i b h = rw (← bits_at zs i) (sweep_turn (map (of_z w32) zs) t i b (rw length-map h))
+pub all_1 : (xs : List ℕ) → list_all (taken 127 0xFFFFFF88) xs ≡ leb (widest xs) 1
+all_1 xs = all_below 1 (taken 127 0xFFFFFF88) (omega arith) fits_1 xs
+
+pub all_2 : (xs : List ℕ) → list_all (taken 32767 0xFFFF8008) xs ≡ leb (widest xs) 2
+all_2 xs = all_below 2 (taken 32767 0xFFFF8008) (omega arith) fits_2 xs
 
 -- the first type that takes all is the widest
-pub widest_1 : (xs : List ℕ) → leb (widest xs) 1 ≡ true → 1 ≡ widest xs
-widest_1 xs p = let h : widest xs ≤ 1 = leb-true _ _ p in omega (arith, widest_range xs)
+pub widest_1 : (xs : List ℕ) → list_all (taken 127 0xFFFFFF88) xs ≡ true → 1 ≡ widest xs
+widest_1 xs p = let h : widest xs ≤ 1 = leb-true _ _ (rw all_1 at p) in omega (arith, widest_range xs)
 
-pub widest_2 : (xs : List ℕ) → leb (widest xs) 1 ≡ false → leb (widest xs) 2 ≡ true → 2 ≡ widest xs
+pub widest_2 : (xs : List ℕ) → list_all (taken 127 0xFFFFFF88) xs ≡ false → list_all (taken 32767 0xFFFF8008) xs ≡ true → 2 ≡ widest xs
 widest_2 xs p q =
-    let h : 1 < widest xs = leb-false _ _ p in
-    let g : widest xs ≤ 2 = leb-true _ _ q in
+    let h : 1 < widest xs = leb-false _ _ (rw all_1 at p) in
+    let g : widest xs ≤ 2 = leb-true _ _ (rw all_2 at q) in
     omega arith
 
-pub widest_3 : (xs : List ℕ) → leb (widest xs) 2 ≡ false → 3 ≡ widest xs
-widest_3 xs p = let h : 2 < widest xs = leb-false _ _ p in omega (arith, widest_range xs)
+pub widest_3 : (xs : List ℕ) → list_all (taken 32767 0xFFFF8008) xs ≡ false → 3 ≡ widest xs
+widest_3 xs p = let h : 2 < widest xs = leb-false _ _ (rw all_2 at p) in omega (arith, widest_range xs)

@@ -2,7 +2,7 @@
 #![tactic(auto)]
 
 // What the header says: strings in the dictionary, contigs, people, and the dictionary offset of GT.
-#[derive(Clone, Copy)]
+#[derive(Clone, Copy, Debug, PartialEq, Eq)]
 pub struct Facts {
     pub strings: u32,
     pub contigs: u32,

@@ -9,12 +9,10 @@ use native.Mathlib.Omega.{arith}
 use lib.Dec.{leb, leb-zero, leb-suc-zero, leb-suc-suc}
 use lib.ListN.{length, take, drop, replicate}
 use Rattle.words.specs.Pick.{pick}
-use Rattle.values.specs.Answers.{refusal}
+use Rattle.values.specs.Answers.{refusal, Answer}
 use Rattle.fixed.specs.Layout.{id_at}
 use Rattle.fixed.specs.declared.Site.{Site}
 use Rattle.site.specs.Steps.{then, times}
-use Rattle.site.specs.declared.Step.{Step}
-use Rattle.site.specs.declared.Step.TheVariants.{At, Refused as NoStep}
 use Rattle.fetch.specs.Fields.{field_at, FoundInside}
 use Rattle.fetch.specs.Account.{Entry, entered, fields_of, site_kinds, site_fields, genotype_fields, account, is_kind, of_kind, numbered, count_of}
 use Rattle.fetch.specs.Engine.{field_step, passing, past, to_filter, to_info, to_first, to_field, then_field, field_in, is_format, block_from, block_of, or_none}
@@ -22,13 +20,13 @@ use Rattle.fetch.specs.Fetch.{field_of}
 use Rattle.fetch.specs.declared.Kind.{Kind}
 use Rattle.fetch.specs.declared.Kind.TheVariants.{Id, Allele, Filter, Info, Format}
 use Rattle.fetch.specs.declared.Found.{Found}
-use Rattle.fetch.specs.declared.Found.TheVariants.{Field, Refused}
+use Rattle.std.specs.Prelude.{Ok, Err}
 use Rattle.fetch.proofs.Inside.{StepLater, field_inside, passing_later, then_later, past_later, drop_past}
 
 -- steps, and then the fields from where they came to
-abbrev pub then_fields : ℕ → List ℕ → Step → (ℕ → List ℕ → List Entry) → List Entry
-then_fields at l (NoStep r) next = []
-then_fields at l (At q) next = next q (drop (q - at) l)
+abbrev pub then_fields : ℕ → List ℕ → Answer ℕ → (ℕ → List ℕ → List Entry) → List Entry
+then_fields at l (Err r) next = []
+then_fields at l (Ok q) next = next q (drop (q - at) l)
 
 -- each kind of a list is another one
 abbrev pub Others : Kind → List Kind → Type 0
@@ -41,10 +39,10 @@ unfolding of_kind fields_of
 others_none kind people [] at l h = refl
 others_none kind people (k ∷ ks) at l h = by_field (λ q m. others_none kind people ks q m h.1) (field_at k people at l)
   where
-    by_field : ((q : ℕ) (m : List ℕ) → of_kind kind (fields_of people ks q m) ≡ []) → (r : Found)
+    by_field : ((q : ℕ) (m : List ℕ) → of_kind kind (fields_of people ks q m) ≡ []) → (r : Answer Found)
         → of_kind kind (entered k at l (fields_of people ks) r) ≡ []
-    by_field on (Refused r) = refl
-    by_field on (Field key t n place stop) = rw h.0 (on stop (drop (stop - at) l))
+    by_field on (Err r) = refl
+    by_field on (Ok x) = rw h.0 (on x.stop (drop (x.stop - at) l))
 
 pub others_replicate : (kind k : Kind) (n : ℕ) (ks : List Kind) → is_kind kind k ≡ false → Others kind ks → Others kind (replicate n k ++ ks)
 others_replicate kind k zero ks h g = g
@@ -57,21 +55,21 @@ unfolding of_kind fields_of
 own_first kind people zero ks at l h g = others_none kind people ks at l g
 own_first kind people (suc n) ks at l h g = by_field (λ q m. own_first kind people n ks q m h g) (field_at kind people at l)
   where
-    by_field : ((q : ℕ) (m : List ℕ) → of_kind kind (fields_of people (replicate n kind ++ ks) q m) ≡ fields_of people (replicate n kind) q m) → (r : Found)
+    by_field : ((q : ℕ) (m : List ℕ) → of_kind kind (fields_of people (replicate n kind ++ ks) q m) ≡ fields_of people (replicate n kind) q m) → (r : Answer Found)
         → of_kind kind (entered kind at l (fields_of people (replicate n kind ++ ks)) r) ≡ entered kind at l (fields_of people (replicate n kind)) r
-    by_field on (Refused r) = refl
-    by_field on (Field key t m place stop) = rw (h, on stop (drop (stop - at) l))
+    by_field on (Err r) = refl
+    by_field on (Ok x) = rw (h, on x.stop (drop (x.stop - at) l))
 
 -- past fields of another kind
-then_fields_then : (at : ℕ) (l : List ℕ) (p : Step) (on : ℕ → List ℕ → Step) (next : ℕ → List ℕ → List Entry) → StepLater at p
+then_fields_then : (at : ℕ) (l : List ℕ) (p : Answer ℕ) (on : ℕ → List ℕ → Answer ℕ) (next : ℕ → List ℕ → List Entry) → StepLater at p
     → ((q : ℕ) (m : List ℕ) → StepLater q (on q m))
     → then_fields at l p (λ q m. then_fields q m (on q m) next) ≡ then_fields at l (then at l p on) next
-then_fields_then at l (NoStep r) on next h k = refl
-then_fields_then at l (At q) on next h k = by-step (on q (drop (q - at) l)) (k q (drop (q - at) l))
+then_fields_then at l (Err r) on next h k = refl
+then_fields_then at l (Ok q) on next h k = by-step (on q (drop (q - at) l)) (k q (drop (q - at) l))
   where
-    by-step : (p : Step) → StepLater q p → then_fields q (drop (q - at) l) p next ≡ then_fields at l p next
-    by-step (NoStep r) i = refl
-    by-step (At e) i = rw (drop_past l at q e h i)
+    by-step : (p : Answer ℕ) → StepLater q p → then_fields q (drop (q - at) l) p next ≡ then_fields at l p next
+    by-step (Err r) i = refl
+    by-step (Ok e) i = rw (drop_past l at q e h i)
 
 pub others_past : (kind k : Kind) (people n : ℕ) (ks : List Kind) (at : ℕ) (l : List ℕ) → is_kind kind k ≡ false
     → of_kind kind (fields_of people (replicate n k ++ ks) at l) ≡ then_fields at l (past k people n at l) (λ q m. of_kind kind (fields_of people ks q m))
@@ -85,10 +83,10 @@ others_past kind k people (suc n) ks at l h =
     on : ℕ → List ℕ → List Entry
     on q m = then_fields q m (past k people n q m) (λ e j. of_kind kind (fields_of people ks e j))
 
-    by_field : ((q : ℕ) (m : List ℕ) → of_kind kind (fields_of people (replicate n k ++ ks) q m) ≡ on q m) → (r : Found)
+    by_field : ((q : ℕ) (m : List ℕ) → of_kind kind (fields_of people (replicate n k ++ ks) q m) ≡ on q m) → (r : Answer Found)
         → of_kind kind (entered k at l (fields_of people (replicate n k ++ ks)) r) ≡ then_fields at l (field_step r) on
-    by_field same (Refused r) = refl
-    by_field same (Field key t m place stop) = rw h (same stop (drop (stop - at) l))
+    by_field same (Err r) = refl
+    by_field same (Ok x) = rw h (same x.stop (drop (x.stop - at) l))
 
 -- fields of the site block are passed by one person as by all
 passing_people : (kind : Kind) (people at : ℕ) (l : List ℕ) → is_format kind ≡ false → passing kind people at l ≡ passing kind 1 at l
@@ -99,16 +97,16 @@ passing_people Filter people at l h = refl
 passing_people Info people at l h = refl
 passing_people Format people at l h = cc
 
-pub then_same : (at : ℕ) (l : List ℕ) (p : Step) (on on' : ℕ → List ℕ → Step) → ((q : ℕ) (m : List ℕ) → on q m ≡ on' q m)
+pub then_same : (at : ℕ) (l : List ℕ) (p : Answer ℕ) (on on' : ℕ → List ℕ → Answer ℕ) → ((q : ℕ) (m : List ℕ) → on q m ≡ on' q m)
     → then at l p on ≡ then at l p on'
-then_same at l (NoStep r) on on' h = refl
-then_same at l (At q) on on' h = h q (drop (q - at) l)
+then_same at l (Err r) on on' h = refl
+then_same at l (Ok q) on on' h = h q (drop (q - at) l)
 
 past_people : (kind : Kind) (people n at : ℕ) (l : List ℕ) → is_format kind ≡ false → past kind people n at l ≡ past kind 1 n at l
 unfolding past times
 past_people kind people zero at l h = refl
 past_people kind people (suc n) at l h =
-    ap (λ (p : Step). then at l p (past kind people n)) (passing_people kind people at l h)
+    ap (λ (p : Answer ℕ). then at l p (past kind people n)) (passing_people kind people at l h)
     ∙ then_same at l (passing kind 1 at l) (past kind people n) (past kind 1 n) (λ q m. past_people kind people n q m h)
 
 -- those of an account are those of each block
@@ -122,10 +120,10 @@ of_kind_append kind (x ∷ xs) ys = rw (of_kind_append kind xs ys) (by_kind (is_
     by_kind false = refl
 
 -- steps that lead to the same, and fields that are the same from there on
-then_fields_same : (at : ℕ) (l : List ℕ) (p : Step) (next next' : ℕ → List ℕ → List Entry) → ((q : ℕ) (m : List ℕ) → next q m ≡ next' q m)
+then_fields_same : (at : ℕ) (l : List ℕ) (p : Answer ℕ) (next next' : ℕ → List ℕ → List Entry) → ((q : ℕ) (m : List ℕ) → next q m ≡ next' q m)
     → then_fields at l p next ≡ then_fields at l p next'
-then_fields_same at l (NoStep r) next next' h = refl
-then_fields_same at l (At q) next next' h = h q (drop (q - at) l)
+then_fields_same at l (Err r) next next' h = refl
+then_fields_same at l (Ok q) next next' h = h q (drop (q - at) l)
 
 -- fields of another kind that are passed, and then those of the kind
 others_then : (kind k : Kind) (people n : ℕ) (ks : List Kind) (at : ℕ) (l : List ℕ) (next : ℕ → List ℕ → List Entry) → is_kind kind k ≡ false
@@ -133,7 +131,7 @@ others_then : (kind k : Kind) (people n : ℕ) (ks : List Kind) (at : ℕ) (l : 
     → of_kind kind (fields_of people (replicate n k ++ ks) at l) ≡ then_fields at l (past k 1 n at l) next
 others_then kind k people n ks at l next h g same =
     others_past kind k people n ks at l h
-    ∙ ap (λ (p : Step). then_fields at l p (λ q m. of_kind kind (fields_of people ks q m))) (past_people k people n at l g)
+    ∙ ap (λ (p : Answer ℕ). then_fields at l p (λ q m. of_kind kind (fields_of people ks q m))) (past_people k people n at l g)
     ∙ then_fields_same at l (past k 1 n at l) _ next same
 
 -- fields of the kind alone
@@ -228,17 +226,17 @@ of_kind_lem Format t s =
     (own Format t.people t.formats t.border (drop t.border (take t.length s)) refl)
 
 -- of so many fields of a kind the one of a number: past those before it
-abbrev none : Found
-none = Refused (refusal 16 0)
+abbrev none : Answer Found
+none = Err (refusal 16 0)
 
 picked_none : (b : Bool) → none ≡ pick b none none
 picked_none true = refl
 picked_none false = refl
 
-then_field_on : (kind : Kind) (people at q : ℕ) (l : List ℕ) (p : Step) → at ≤ q → StepLater q p
+then_field_on : (kind : Kind) (people at q : ℕ) (l : List ℕ) (p : Answer ℕ) → at ≤ q → StepLater q p
     → then_field q (drop (q - at) l) p (field_at kind people) ≡ then_field at l p (field_at kind people)
-then_field_on kind people at q l (NoStep r) h k = refl
-then_field_on kind people at q l (At e) h k = rw (drop_past l at q e h k)
+then_field_on kind people at q l (Err r) h k = refl
+then_field_on kind people at q l (Ok e) h k = rw (drop_past l at q e h k)
 
 pub run_numbered : (kind : Kind) (people n c at : ℕ) (l : List ℕ)
     → numbered n (fields_of people (replicate c kind) at l)
@@ -247,30 +245,30 @@ unfolding numbered fields_of past times passing
 run_numbered kind people n zero at l = rw leb-zero
 run_numbered kind people zero (suc c) at l = rw (leb-suc-zero, sub_self at) (by_field (field_at kind people at l))
   where
-    by_field : (r : Found) → numbered 0 (entered kind at l (fields_of people (replicate c kind)) r) ≡ or_none r
-    by_field (Refused r) = refl
-    by_field (Field key t m place stop) = refl
+    by_field : (r : Answer Found) → numbered 0 (entered kind at l (fields_of people (replicate c kind)) r) ≡ or_none r
+    by_field (Err r) = refl
+    by_field (Ok x) = refl
 run_numbered kind people (suc n) (suc c) at l =
     rw leb-suc-suc (by_field (λ q m. run_numbered kind people n c q m) (field_at kind people at l) (field_inside kind people at l))
   where
     by_field : ((q : ℕ) (m : List ℕ) → numbered n (fields_of people (replicate c kind) q m)
-        ≡ pick (leb c n) none (or_none (then_field q m (past kind people n q m) (field_at kind people)))) → (r : Found) → FoundInside at (at + length l) r
+        ≡ pick (leb c n) none (or_none (then_field q m (past kind people n q m) (field_at kind people)))) → (r : Answer Found) → FoundInside at (at + length l) r
         → numbered (suc n) (entered kind at l (fields_of people (replicate c kind)) r)
         ≡ pick (leb c n) none (or_none (then_field at l (then at l (field_step r) (past kind people n)) (field_at kind people)))
-    by_field on (Refused r) h = picked_none (leb c n)
-    by_field on (Field key t m place stop) h =
-        on stop (drop (stop - at) l)
-        ∙ ap (λ (r : Found). pick (leb c n) none (or_none r))
-        (then_field_on kind people at stop l (past kind people n stop (drop (stop - at) l)) (omega arith) (past_later kind people n stop (drop (stop - at) l)))
+    by_field on (Err r) h = picked_none (leb c n)
+    by_field on (Ok x) h =
+        on x.stop (drop (x.stop - at) l)
+        ∙ ap (λ (r : Answer Found). pick (leb c n) none (or_none r))
+        (then_field_on kind people at x.stop l (past kind people n x.stop (drop (x.stop - at) l)) (omega arith) (past_later kind people n x.stop (drop (x.stop - at) l)))
 
-first_numbered : (kind : Kind) (people n c at : ℕ) (l : List ℕ) (p : Step) → StepLater at p
+first_numbered : (kind : Kind) (people n c at : ℕ) (l : List ℕ) (p : Answer ℕ) → StepLater at p
     → numbered n (then_fields at l p (fields_of people (replicate c kind)))
     ≡ pick (leb c n) none (or_none (then_field at l (then at l p (past kind people n)) (field_at kind people)))
 unfolding numbered
-first_numbered kind people n c at l (NoStep r) h = picked_none (leb c n)
-first_numbered kind people n c at l (At q) h =
+first_numbered kind people n c at l (Err r) h = picked_none (leb c n)
+first_numbered kind people n c at l (Ok q) h =
     run_numbered kind people n c q (drop (q - at) l)
-    ∙ ap (λ (r : Found). pick (leb c n) none (or_none r))
+    ∙ ap (λ (r : Answer Found). pick (leb c n) none (or_none r))
     (then_field_on kind people at q l (past kind people n q (drop (q - at) l)) h (past_later kind people n q (drop (q - at) l)))
 
 pub to_first_later : (kind : Kind) (alleles at : ℕ) (l : List ℕ) → StepLater at (to_first kind alleles at l)

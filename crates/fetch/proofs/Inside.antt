@@ -14,21 +14,17 @@ use Rattle.words.specs.Words.{outside}
 use Rattle.types.specs.Rows.{row_of, width_of, allowed}
 use Rattle.types.specs.declared.Use.{Use}
 use Rattle.types.specs.declared.Use.TheVariants.{Integer as IntegerUse, Id as IdUse, Allele as AlleleUse, Filter as FilterUse, Info as InfoUse, Format as FormatUse}
-use Rattle.values.specs.Answers.{IntegerInside, DescriptorInside, ValueInside}
+use Rattle.values.specs.Answers.{IntegerInside, DescriptorInside, ValueInside, Answer}
 use Rattle.values.specs.Values.{integer, in_dictionary, keyed, long_enough, true_length, with_length, may_stand, described, with_elements, present}
-use Rattle.values.specs.declared.Integer.{Integer}
-use Rattle.values.specs.declared.Integer.TheVariants.{One, Refused as NoInteger}
-use Rattle.values.specs.declared.Descriptor.{Descriptor}
-use Rattle.values.specs.declared.Descriptor.TheVariants.{Typed, Refused as NoDescriptor}
 use Rattle.site.specs.Steps.{then, times}
-use Rattle.site.specs.declared.Step.{Step}
-use Rattle.site.specs.declared.Step.TheVariants.{At, Refused as NoStep}
 use Rattle.fetch.specs.Fields.{value_field, pair_field, alone, paired, field_at, FoundInside}
 use Rattle.fetch.specs.Engine.{field_step, passing, past}
-use Rattle.fetch.specs.declared.Found.{Found}
-use Rattle.fetch.specs.declared.Found.TheVariants.{Field, Refused}
 use Rattle.fetch.proofs.Fields.{value_found, found_on}
 use Rattle.fetch.specs.declared.Kind.{Kind}
+use Rattle.fetch.specs.declared.Found.{Found}
+use Rattle.values.specs.declared.Descriptor.{Descriptor}
+use Rattle.std.specs.Prelude.{Err, Ok}
+use Rattle.values.specs.declared.Integer.{Integer}
 use Rattle.fetch.specs.declared.Kind.TheVariants.{Id, Allele, Filter, Info, Format}
 
 -- what holds of both branches of a test, whichever the test says
@@ -53,18 +49,18 @@ pub keyed_inside : (strings at : ℕ) (l : List ℕ) → IntegerInside at (at + 
 unfolding keyed
 keyed_inside strings at l = by_key (integer at l) (integer_inside at l)
   where
-    by_key : (i : Integer) → IntegerInside at (at + length l) i → IntegerInside at (at + length l) (in_dictionary strings at i)
-    by_key (NoInteger r) h = tt
-    by_key (One x next) h = either (IntegerInside at (at + length l)) (outside strings x) _ _ tt h
+    by_key : (i : Answer Integer) → IntegerInside at (at + length l) i → IntegerInside at (at + length l) (in_dictionary strings at i)
+    by_key (Err r) h = tt
+    by_key (Ok i) h = either (IntegerInside at (at + length l)) (outside strings i.bits) _ _ tt h
 
-long_inside : (at end : ℕ) (i : Integer) → IntegerInside at end i → IntegerInside at end (long_enough at i)
-long_inside at end (NoInteger r) h = tt
-long_inside at end (One x next) h =
-    either (IntegerInside at end) (ltb x 15) _ _ tt (either (IntegerInside at end) (leb 0x80000000 x) _ _ tt h)
+long_inside : (at end : ℕ) (i : Answer Integer) → IntegerInside at end i → IntegerInside at end (long_enough at i)
+long_inside at end (Err r) h = tt
+long_inside at end (Ok i) h =
+    either (IntegerInside at end) (ltb i.bits 15) _ _ tt (either (IntegerInside at end) (leb 0x80000000 i.bits) _ _ tt h)
 
-length_inside : (t at end stop : ℕ) (i : Integer) → end ≤ stop → IntegerInside (at + 1) end i → DescriptorInside at stop (with_length t i)
-length_inside t at end stop (NoInteger r) e h = tt
-length_inside t at end stop (One n next) e h = (omega arith, omega arith)
+length_inside : (t at end stop : ℕ) (i : Answer Integer) → end ≤ stop → IntegerInside (at + 1) end i → DescriptorInside at stop (with_length t i)
+length_inside t at end stop (Err r) e h = tt
+length_inside t at end stop (Ok i) e h = (omega arith, omega arith)
 
 described_inside : (role : Use) (at : ℕ) (l : List ℕ) → DescriptorInside at (at + length l) (described role at l)
 unfolding described true_length
@@ -77,23 +73,23 @@ described_inside role at (d ∷ rest) =
     (length_inside (d % 16) at (at + 1 + length rest) (at + length (d ∷ rest)) (long_enough (at + 1) i) (omega arith)
     (long_inside (at + 1) (at + 1 + length rest) i (integer_inside (at + 1) rest)))) tt
 
-elements_inside : (vectors at end : ℕ) (d : Descriptor) → DescriptorInside at end d → ValueInside at end (with_elements vectors end d)
-elements_inside vectors at end (NoDescriptor r) h = tt
-elements_inside vectors at end (Typed t n first) h =
-    tested (ValueInside at end) (leb (first + vectors * n * width_of t) end) _ _ (λ e. (h.0, omega arith, leb-true _ _ e)) (λ e. tt)
+elements_inside : (vectors at end : ℕ) (d : Answer Descriptor) → DescriptorInside at end d → ValueInside at end (with_elements vectors end d)
+elements_inside vectors at end (Err r) h = tt
+elements_inside vectors at end (Ok d) h =
+    tested (ValueInside at end) (leb (d.first + vectors * d.len * width_of d.code) end) _ _ (λ e. (h.0, omega arith, leb-true _ _ e)) (λ e. tt)
 
 pub present_inside : (vectors : ℕ) (role : Use) (at : ℕ) (l : List ℕ) → ValueInside at (at + length l) (present vectors role at l)
 unfolding present
 present_inside vectors role at l = elements_inside vectors at (at + length l) (described role at l) (described_inside role at l)
 
-key_inside : (vectors : ℕ) (role : Use) (at : ℕ) (l : List ℕ) (i : Integer) → IntegerInside at (at + length l) i
+key_inside : (vectors : ℕ) (role : Use) (at : ℕ) (l : List ℕ) (i : Answer Integer) → IntegerInside at (at + length l) i
     → FoundInside at (at + length l) (pair_field vectors role at l i)
-key_inside vectors role at l (NoInteger r) h = tt
-key_inside vectors role at l (One key next) h =
-    let m = drop (next - at) l in
-    let e : next + length m ≤ at + length l = rw (length-drop (next - at) l) (omega arith) in
-    found_on (value_field key (present vectors role next m)) next at (next + length m) (at + length l) (omega arith) e
-    (value_found key (present vectors role next m) next next (next + length m) (omega arith) (present_inside vectors role next m))
+key_inside vectors role at l (Err r) h = tt
+key_inside vectors role at l (Ok i) h =
+    let m = drop (i.next - at) l in
+    let e : i.next + length m ≤ at + length l = rw (length-drop (i.next - at) l) (omega arith) in
+    found_on (value_field i.bits (present vectors role i.next m)) i.next at (i.next + length m) (at + length l) (omega arith) e
+    (value_found i.bits (present vectors role i.next m) i.next i.next (i.next + length m) (omega arith) (present_inside vectors role i.next m))
 
 alone_inside : (role : Use) (at : ℕ) (l : List ℕ) → FoundInside at (at + length l) (alone role at l)
 unfolding alone
@@ -111,26 +107,26 @@ field_inside Info people at l = paired_inside 1 InfoUse at l
 field_inside Format people at l = paired_inside people FormatUse at l
 
 -- a step does not go back
-abbrev pub StepLater : ℕ → Step → Type 0
-StepLater at (NoStep r) = Unit {0}
-StepLater at (At q) = at ≤ q
+abbrev pub StepLater : ℕ → Answer ℕ → Type 0
+StepLater at (Err r) = Unit {0}
+StepLater at (Ok q) = at ≤ q
 
-field_later : (at end : ℕ) (r : Found) → FoundInside at end r → StepLater at (field_step r)
-field_later at end (Refused r) h = tt
-field_later at end (Field key t n place stop) h = omega arith
+field_later : (at end : ℕ) (r : Answer Found) → FoundInside at end r → StepLater at (field_step r)
+field_later at end (Err r) h = tt
+field_later at end (Ok x) h = omega arith
 
 pub passing_later : (kind : Kind) (people at : ℕ) (l : List ℕ) → StepLater at (passing kind people at l)
 unfolding passing
 passing_later kind people at l = field_later at (at + length l) (field_at kind people at l) (field_inside kind people at l)
 
-later_on : (at q : ℕ) (p : Step) → at ≤ q → StepLater q p → StepLater at p
-later_on at q (NoStep r) h k = tt
-later_on at q (At e) h k = omega arith
+later_on : (at q : ℕ) (p : Answer ℕ) → at ≤ q → StepLater q p → StepLater at p
+later_on at q (Err r) h k = tt
+later_on at q (Ok e) h k = omega arith
 
-pub then_later : (at : ℕ) (l : List ℕ) (p : Step) (next : ℕ → List ℕ → Step) → StepLater at p → ((q : ℕ) (m : List ℕ) → StepLater q (next q m))
+pub then_later : (at : ℕ) (l : List ℕ) (p : Answer ℕ) (next : ℕ → List ℕ → Answer ℕ) → StepLater at p → ((q : ℕ) (m : List ℕ) → StepLater q (next q m))
     → StepLater at (then at l p next)
-then_later at l (NoStep r) next h k = tt
-then_later at l (At q) next h k = later_on at q (next q (drop (q - at) l)) h (k q (drop (q - at) l))
+then_later at l (Err r) next h k = tt
+then_later at l (Ok q) next h k = later_on at q (next q (drop (q - at) l)) h (k q (drop (q - at) l))
 
 pub past_later : (kind : Kind) (people n at : ℕ) (l : List ℕ) → StepLater at (past kind people n at l)
 unfolding past times

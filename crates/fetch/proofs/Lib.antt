@@ -1,3 +1,5 @@
 pub mod Fields
 pub mod Inside
 pub mod Account
+pub mod Held
+pub mod Said

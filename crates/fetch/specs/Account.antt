@@ -1,15 +1,14 @@
 -- One account of what a record holds: its fields, one after the other, each with its kind, key, type, length, place and end. Fetching takes the field
 -- of a number out of it, the walker the next, and what a record shows is a map over it. Rests on what a field is, and on the layout.
-use Rattle.std.specs.Prelude.{ℕ, zero, suc, ◌-◌, List, [], ◌∷◌, ◌++◌, Bool, eqb, take, drop, replicate}
+use Rattle.std.specs.Prelude.{ℕ, zero, suc, ◌-◌, List, [], ◌∷◌, ◌++◌, Bool, eqb, take, drop, replicate, Err, Ok}
 use Rattle.words.specs.Pick.{pick}
-use Rattle.values.specs.Answers.{refusal}
+use Rattle.values.specs.Answers.{refusal, Answer}
 use Rattle.fixed.specs.Layout.{id_at}
 use Rattle.fixed.specs.declared.Site.{Site}
-use Rattle.fetch.specs.Fields.{field_at}
+use Rattle.fetch.specs.Fields.{field_at, found_field}
 use Rattle.fetch.specs.declared.Kind.{Kind}
-use Rattle.fetch.specs.declared.Kind.TheVariants.{Id, Allele, Filter, Info, Format}
 use Rattle.fetch.specs.declared.Found.{Found}
-use Rattle.fetch.specs.declared.Found.TheVariants.{Field, Refused}
+use Rattle.fetch.specs.declared.Kind.TheVariants.{Id, Allele, Filter, Info, Format}
 
 -- a field of a record: its kind; its key, 0 where it has none; its value's type and length; the place of its first element, and the place after its last
 pub record Entry : Type 0 where
@@ -21,10 +20,10 @@ pub record Entry : Type 0 where
   pub stop : ℕ
 
 -- a field, and then those after it; where no whole field stands, there are none
-abbrev pub entered : Kind → ℕ → List ℕ → (ℕ → List ℕ → List Entry) → Found → List Entry
-entered kind at l rest (Refused r) = []
-entered kind at l rest (Field key t n place stop) =
-    record { kind = kind; key = key; code = t; len = n; place = place; stop = stop } ∷ rest stop (drop (stop - at) l)
+abbrev pub entered : Kind → ℕ → List ℕ → (ℕ → List ℕ → List Entry) → Answer Found → List Entry
+entered kind at l rest (Err r) = []
+entered kind at l rest (Ok x) =
+    record { kind = kind; key = x.key; code = x.code; len = x.len; place = x.place; stop = x.stop } ∷ rest x.stop (drop (x.stop - at) l)
 
 -- fields of these kinds at the front of a list, one after the other, for so many people
 unfoldable pub fields_of : ℕ → List Kind → ℕ → List ℕ → List Entry
@@ -69,10 +68,10 @@ count_of Info t = t.infos
 count_of Format t = t.formats
 
 -- the one of a number, counted from 0; 16 where there is none of that number
-abbrev pub as_found : Entry → Found
-as_found e = Field e.key e.code e.len e.place e.stop
+abbrev pub as_found : Entry → Answer Found
+as_found e = found_field e.key e.code e.len e.place e.stop
 
-unfoldable pub numbered : ℕ → List Entry → Found
-numbered n [] = Refused (refusal 16 0)
+unfoldable pub numbered : ℕ → List Entry → Answer Found
+numbered n [] = Err (refusal 16 0)
 numbered zero (e ∷ es) = as_found e
 numbered (suc n) (e ∷ es) = numbered n es

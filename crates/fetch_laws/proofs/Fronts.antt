@@ -16,18 +16,16 @@ use Rattle.types.specs.Rows.{row_of, width_of, allowed}
 use Rattle.types.specs.Elements.{shown}
 use Rattle.types.specs.declared.Use.{Use}
 use Rattle.types.specs.declared.Use.TheVariants.{Integer as IntegerUse}
-use Rattle.values.specs.Answers.{no_integer, one, no_descriptor, typed, IntegerInside}
+use Rattle.values.specs.Answers.{no_integer, one, no_descriptor, typed, IntegerInside, Answer, whole}
 use Rattle.values.specs.Values.{integer, long_enough, true_length, in_dictionary, keyed, with_length, may_stand, described, present}
-use Rattle.values.specs.declared.Integer.{Integer}
-use Rattle.values.specs.declared.Integer.TheVariants.{One, Refused as NoInteger}
-use Rattle.values.specs.declared.Descriptor.TheVariants.{Typed}
-use Rattle.values.specs.declared.Value.TheVariants.{Present}
 use Rattle.vectors.specs.Vectors.{numbers, shown_numbers}
 use Rattle.fixed.specs.Layout.{field}
-use Rattle.fetch.specs.Fields.{paired}
-use Rattle.fetch.specs.declared.Found.TheVariants.{Field}
+use Rattle.fetch.specs.Fields.{paired, found_field}
 use Rattle.fetch_laws.proofs.Bytes.{part_of_lem}
+use Rattle.values.proofs.Held.{same_one, same_typed}
 use Rattle.fetch.proofs.Inside.{integer_inside}
+use Rattle.std.specs.Prelude.{Err, Ok}
+use Rattle.values.specs.declared.Integer.{Integer}
 use Rattle.fetch_laws.proofs.Present.{present_typed, paired_keyed}
 
 -- the number at the front of a list is that of its bytes, whatever follows
@@ -35,8 +33,8 @@ number_front : (w : ℕ) (l m : List ℕ) → w ≤ length l → number w (take 
 unfolding number
 number_front w l m h = rw (take_at (take w l) m w (length-take-le w l h))
 
-pub integer_front : (at at' : ℕ) (l m : List ℕ) (x next : ℕ) → integer at l ≡ One x next
-    → integer at' (take (next - at) l ++ m) ≡ One x (at' + (next - at))
+pub integer_front : (at at' : ℕ) (l m : List ℕ) (x next : ℕ) → integer at l ≡ one x next
+    → integer at' (take (next - at) l ++ m) ≡ one x (at' + (next - at))
 unfolding integer
 integer_front at at' [] m x next h = cc
 integer_front at at' (d ∷ rest) m x next h =
@@ -47,14 +45,15 @@ integer_front at at' (d ∷ rest) m x next h =
 
     by_tests : (a b c : Bool) → allowed (row_of (d % 16)) IntegerUse ≡ a → eqb (d / 16) 1 ≡ b → ltb (length rest) w ≡ c
         → pick a (pick b (pick c (no_integer 3 (at + 1 + length rest)) (one (shown (d % 16) (number w rest)) (at + 1 + w))) (no_integer 6 at)) (no_integer 6 at)
-        ≡ One x next
-        → integer at' (take (next - at) (d ∷ rest) ++ m) ≡ One x (at' + (next - at))
+        ≡ one x next
+        → integer at' (take (next - at) (d ∷ rest) ++ m) ≡ one x (at' + (next - at))
     by_tests false b c p q r e = cc
     by_tests true false c p q r e = cc
     by_tests true true true p q r e = cc
     by_tests true true false p q r e =
-        let i : at + 1 + w ≡ next = cc in
-        let j : shown (d % 16) (number w rest) ≡ x = cc in
+        let y = same_one e in
+        let i = y.1 in
+        let j = y.0 in
         let k : w ≤ length rest = ltb-false (length rest) w r in
         let o : next - at ≡ suc w = omega arith in
         let z : ltb (length (take w rest ++ m)) w ≡ false =
@@ -63,93 +62,91 @@ integer_front at at' (d ∷ rest) m x next h =
         rw (o, p, q, z, number_front w rest m k, j, u)
 
 -- a true length, or a key, is an integer that passed its tests
-true_length_front : (at at' : ℕ) (l m : List ℕ) (x next : ℕ) → true_length at l ≡ One x next
-    → true_length at' (take (next - at) l ++ m) ≡ One x (at' + (next - at))
+true_length_front : (at at' : ℕ) (l m : List ℕ) (x next : ℕ) → true_length at l ≡ one x next
+    → true_length at' (take (next - at) l ++ m) ≡ one x (at' + (next - at))
 unfolding true_length
 true_length_front at at' l m x next h = by-integer (integer at l) refl h
   where
-    by_tests : (y q : ℕ) (a b : Bool) → integer at l ≡ One y q → ltb y 15 ≡ a → leb 0x80000000 y ≡ b
-        → pick a (no_integer 7 at) (pick b (no_integer 7 at) (one y q)) ≡ One x next
-        → long_enough at' (integer at' (take (next - at) l ++ m)) ≡ One x (at' + (next - at))
+    by_tests : (y q : ℕ) (a b : Bool) → integer at l ≡ one y q → ltb y 15 ≡ a → leb 0x80000000 y ≡ b
+        → pick a (no_integer 7 at) (pick b (no_integer 7 at) (one y q)) ≡ one x next
+        → long_enough at' (integer at' (take (next - at) l ++ m)) ≡ one x (at' + (next - at))
     by_tests y q true b i u v e = cc
     by_tests y q false true i u v e = cc
     by_tests y q false false i u v e =
-        let j : integer at l ≡ One x next = cc in
-        let k : y ≡ x = cc in
+        let k = (same_one e).0 in
+        let j : integer at l ≡ one x next = rw (i, k, (same_one e).1) in
         let u' : ltb x 15 ≡ false = rw k at u in
         let v' : leb 0x80000000 x ≡ false = rw k at v in
         rw (integer_front at at' l m x next j, u', v')
 
-    by-integer : (i : Integer) → integer at l ≡ i → long_enough at i ≡ One x next
-        → long_enough at' (integer at' (take (next - at) l ++ m)) ≡ One x (at' + (next - at))
-    by-integer (NoInteger r) p e = cc
-    by-integer (One y q) p e = by_tests y q (ltb y 15) (leb 0x80000000 y) p refl refl e
+    by-integer : (i : Answer Integer) → integer at l ≡ i → long_enough at i ≡ one x next
+        → long_enough at' (integer at' (take (next - at) l ++ m)) ≡ one x (at' + (next - at))
+    by-integer (Err r) p e = cc
+    by-integer (Ok i) p e = by_tests i.bits i.next (ltb i.bits 15) (leb 0x80000000 i.bits) p refl refl e
 
-pub keyed_front : (strings at at' : ℕ) (l m : List ℕ) (x next : ℕ) → keyed strings at l ≡ One x next
-    → keyed strings at' (take (next - at) l ++ m) ≡ One x (at' + (next - at))
+pub keyed_front : (strings at at' : ℕ) (l m : List ℕ) (x next : ℕ) → keyed strings at l ≡ one x next
+    → keyed strings at' (take (next - at) l ++ m) ≡ one x (at' + (next - at))
 unfolding keyed
 keyed_front strings at at' l m x next h = by-integer (integer at l) refl h
   where
-    by-test : (y q : ℕ) (a : Bool) → integer at l ≡ One y q → outside strings y ≡ a
-        → pick a (no_integer 8 (at + 1)) (one y q) ≡ One x next
-        → in_dictionary strings at' (integer at' (take (next - at) l ++ m)) ≡ One x (at' + (next - at))
+    by-test : (y q : ℕ) (a : Bool) → integer at l ≡ one y q → outside strings y ≡ a
+        → pick a (no_integer 8 (at + 1)) (one y q) ≡ one x next
+        → in_dictionary strings at' (integer at' (take (next - at) l ++ m)) ≡ one x (at' + (next - at))
     by-test y q true i u e = cc
     by-test y q false i u e =
-        let j : integer at l ≡ One x next = cc in
-        let k : y ≡ x = cc in
+        let k = (same_one e).0 in
+        let j : integer at l ≡ one x next = rw (i, k, (same_one e).1) in
         let u' : outside strings x ≡ false = rw k at u in
         rw (integer_front at at' l m x next j, u')
 
-    by-integer : (i : Integer) → integer at l ≡ i → in_dictionary strings at i ≡ One x next
-        → in_dictionary strings at' (integer at' (take (next - at) l ++ m)) ≡ One x (at' + (next - at))
-    by-integer (NoInteger r) p e = cc
-    by-integer (One y q) p e = by-test y q (outside strings y) p refl e
+    by-integer : (i : Answer Integer) → integer at l ≡ i → in_dictionary strings at i ≡ one x next
+        → in_dictionary strings at' (integer at' (take (next - at) l ++ m)) ≡ one x (at' + (next - at))
+    by-integer (Err r) p e = cc
+    by-integer (Ok i) p e = by-test i.bits i.next (outside strings i.bits) p refl e
 
 -- a true length comes to a place after its descriptor
-true_length_later : (at : ℕ) (l : List ℕ) (x next : ℕ) → true_length at l ≡ One x next → at ≤ next
+true_length_later : (at : ℕ) (l : List ℕ) (x next : ℕ) → true_length at l ≡ one x next → at ≤ next
 unfolding true_length
 true_length_later at l x next h = by-integer (integer at l) (integer_inside at l) h
   where
-    by_tests : (y q : ℕ) (a b : Bool) → at ≤ q → pick a (no_integer 7 at) (pick b (no_integer 7 at) (one y q)) ≡ One x next → at ≤ next
+    by_tests : (y q : ℕ) (a b : Bool) → at ≤ q → pick a (no_integer 7 at) (pick b (no_integer 7 at) (one y q)) ≡ one x next → at ≤ next
     by_tests y q true b i e = let z : ◌≡◌ {A = ℕ} 0 1 = cc in absurd (omega arith)
     by_tests y q false true i e = let z : ◌≡◌ {A = ℕ} 0 1 = cc in absurd (omega arith)
-    by_tests y q false false i e = let k : q ≡ next = cc in omega arith
+    by_tests y q false false i e = let k = (same_one e).1 in omega arith
 
-    by-integer : (i : Integer) → IntegerInside at (at + length l) i → long_enough at i ≡ One x next → at ≤ next
-    by-integer (NoInteger r) p e = let z : ◌≡◌ {A = ℕ} 0 1 = cc in absurd (omega arith)
-    by-integer (One y q) p e = by_tests y q (ltb y 15) (leb 0x80000000 y) (omega arith) e
+    by-integer : (i : Answer Integer) → IntegerInside at (at + length l) i → long_enough at i ≡ one x next → at ≤ next
+    by-integer (Err r) p e = let z : ◌≡◌ {A = ℕ} 0 1 = cc in absurd (omega arith)
+    by-integer (Ok i) p e = by_tests i.bits i.next (ltb i.bits 15) (leb 0x80000000 i.bits) (omega arith) e
 
-pub described_front : (role : Use) (at at' : ℕ) (l m : List ℕ) (t n first : ℕ) → described role at l ≡ Typed t n first
-    → described role at' (take (first - at) l ++ m) ≡ Typed t n (at' + (first - at))
+pub described_front : (role : Use) (at at' : ℕ) (l m : List ℕ) (t n first : ℕ) → described role at l ≡ typed t n first
+    → described role at' (take (first - at) l ++ m) ≡ typed t n (at' + (first - at))
 unfolding described
 described_front role at at' [] m t n first h = cc
 described_front role at at' (d ∷ rest) m t n first h =
     by_tests (may_stand role (d % 16) (d / 16)) (ltb (d / 16) 15) (true_length (at + 1) rest) refl refl refl h
   where
-    by_tests : (a b : Bool) (i : Integer) → may_stand role (d % 16) (d / 16) ≡ a → ltb (d / 16) 15 ≡ b → true_length (at + 1) rest ≡ i
-        → pick a (pick b (typed (d % 16) (d / 16) (at + 1)) (with_length (d % 16) i)) (no_descriptor 6 at) ≡ Typed t n first
-        → described role at' (take (first - at) (d ∷ rest) ++ m) ≡ Typed t n (at' + (first - at))
+    by_tests : (a b : Bool) (i : Answer Integer) → may_stand role (d % 16) (d / 16) ≡ a → ltb (d / 16) 15 ≡ b → true_length (at + 1) rest ≡ i
+        → pick a (pick b (typed (d % 16) (d / 16) (at + 1)) (with_length (d % 16) i)) (no_descriptor 6 at) ≡ typed t n first
+        → described role at' (take (first - at) (d ∷ rest) ++ m) ≡ typed t n (at' + (first - at))
     by_tests false b i p q r e = cc
     by_tests true true i p q r e =
-        let j : at + 1 ≡ first = cc in
-        let k : d % 16 ≡ t = cc in
-        let o : d / 16 ≡ n = cc in
+        let k = same_typed e in
+        let j = k.2 in
         let u : first - at ≡ 1 = omega arith in
-        rw (u, p, q, k, o)
-    by_tests true false (NoInteger x) p q r e = cc
-    by_tests true false (One y next) p q r e =
-        let j : y ≡ n = cc in
-        let k : d % 16 ≡ t = cc in
-        let g : true_length (at + 1) rest ≡ One n first = cc in
+        rw (u, p, q, k.0, k.1)
+    by_tests true false (Err x) p q r e = cc
+    by_tests true false (Ok i) p q r e =
+        let k = same_typed e in
+        let g : true_length (at + 1) rest ≡ one n first = rw (r, k.1, k.2) in
         let v = true_length_later (at + 1) rest n first g in
         let o : first - at ≡ suc (first - (at + 1)) = omega arith in
         let u : at' + 1 + (first - (at + 1)) ≡ at' + suc (first - (at + 1)) = omega arith in
-        rw (o, p, q, true_length_front (at + 1) (at' + 1) rest m n first g, k, u)
+        rw (o, p, q, true_length_front (at + 1) (at' + 1) rest m n first g, k.0, u)
 
 -- a value's descriptor before the elements of so many vectors
 pub present_front : (vectors k : ℕ) (role : Use) (at at' : ℕ) (l els m : List ℕ) (t n first stop : ℕ)
-    → present vectors role at l ≡ Present t n first stop → length els ≡ k * n * width_of t
-    → present k role at' (take (first - at) l ++ (els ++ m)) ≡ Present t n (at' + (first - at)) (at' + (first - at) + k * n * width_of t)
+    → present vectors role at l ≡ whole t n first stop → length els ≡ k * n * width_of t
+    → present k role at' (take (first - at) l ++ (els ++ m)) ≡ whole t n (at' + (first - at)) (at' + (first - at) + k * n * width_of t)
 unfolding present
 present_front vectors k role at at' l els m t n first stop h e =
     let i = present_typed vectors role at l t n first stop h in
@@ -166,8 +163,8 @@ take_past l at p q h k = let e : q - at ≡ p - at + (q - p) = omega arith in rw
 
 -- a field's key and descriptor before the elements of so many vectors
 pub paired_front : (vectors k : ℕ) (role : Use) (at at' : ℕ) (l els m : List ℕ) (key t n first stop : ℕ)
-    → paired vectors role at l ≡ Field key t n first stop → length els ≡ k * n * width_of t
-    → paired k role at' (take (first - at) l ++ (els ++ m)) ≡ Field key t n (at' + (first - at)) (at' + (first - at) + k * n * width_of t)
+    → paired vectors role at l ≡ found_field key t n first stop → length els ≡ k * n * width_of t
+    → paired k role at' (take (first - at) l ++ (els ++ m)) ≡ found_field key t n (at' + (first - at)) (at' + (first - at) + k * n * width_of t)
 unfolding paired
 paired_front vectors k role at at' l els m key t n first stop h e =
     let r = paired_keyed vectors role at l key t n first stop h in

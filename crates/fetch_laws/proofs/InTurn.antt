@@ -18,24 +18,24 @@ use Rattle.fixed.specs.Layout.{id_at}
 use Rattle.fixed.specs.Fixed.{fixed}
 use Rattle.facts.specs.declared.Facts.{Facts}
 use Rattle.fixed.specs.declared.Site.{Site}
-use Rattle.fixed.specs.declared.Fixed.TheVariants.{Site as Front}
 use Rattle.fixed.proofs.Fits.{fixed_fits, people_given}
 use Rattle.site.specs.Steps.{ended}
 use Rattle.genotypes.specs.Formats.{gt_at, no_gt}
 use Rattle.genotypes.specs.declared.Gt.{Gt}
-use Rattle.record.specs.Reading.{reading, site_of, genotypes_of}
-use Rattle.record.specs.declared.Reading.TheVariants.{Accepted}
+use Rattle.record.specs.Reading.{reading, site_of, genotypes_of, accepted_as}
 use Rattle.record.proofs.Accepted.{accepted, accepted_fits}
 use Rattle.fetch.specs.Account.{Entry, fields_of, site_kinds, site_fields, genotype_fields, account, of_kind, numbered}
 use Rattle.fetch.specs.Fetch.{field_of, found}
 use Rattle.fetch.specs.declared.Kind.TheVariants.{Format}
-use Rattle.fetch.specs.declared.Found.TheVariants.{Field}
 use Rattle.fetch.proofs.Account.{of_kind_lem}
 use Rattle.fetch_laws.specs.InTurn.{judging, in_turn, NoneTwice, keys_of, InTurn, Accepts, gt_in}
 use Rattle.fetch_laws.proofs.Agree.{went}
 use Rattle.fetch_laws.proofs.There.{ended_none, accepted_people}
 use Rattle.fetch_laws.proofs.Turns.{site_in_turn, turns_within, turns_there}
+use Rattle.fetch.specs.Fields.{found_field}
+use Rattle.std.specs.Prelude.{Ok}
 use Rattle.fetch_laws.proofs.Once.{formats_turns, turns_formats, formats_gt, among_more}
+use Rattle.fetch.proofs.Held.{same_field}
 
 -- the FORMAT fields of an account are those of the genotype block
 format_fields : (t : Site) (s : List ℕ)
@@ -57,7 +57,7 @@ filled_over s from end h c =
     drop_on (take end s) from end c ∙ drop_of_length-le (take end s) z
 
 -- the law: of an accepted record each field is judged sound in turn, the blocks are filled, and no key of FORMAT stands twice
-pub accepted_in_turn : (f : Facts) (s : List ℕ) (t : Site) (g : Gt) → reading f s ≡ Accepted t g → InTurn f t s
+pub accepted_in_turn : (f : Facts) (s : List ℕ) (t : Site) (g : Gt) → reading f s ≡ accepted_as t g → InTurn f t s
 unfolding site_of genotypes_of
 accepted_in_turn f s t g h =
     let r = accepted f s t g h in
@@ -82,7 +82,7 @@ accepted_in_turn f s t g h =
     }
 
 -- the other way: a front whose fields are judged sound in turn is that of an accepted record
-pub in_turn_accepted : (f : Facts) (s : List ℕ) (t : Site) → fixed f s ≡ Front t → InTurn f t s → Accepts f s t
+pub in_turn_accepted : (f : Facts) (s : List ℕ) (t : Site) → fixed f s ≡ Ok t → InTurn f t s → Accepts f s t
 unfolding reading site_of genotypes_of
 in_turn_accepted f s t h u =
     let x = fixed_fits f s t h in
@@ -101,7 +101,7 @@ in_turn_accepted f s t h u =
     }
 
 -- the law: of an accepted record every part is in the account
-pub kinds_there : (f : Facts) (s : List ℕ) (t : Site) (g : Gt) → reading f s ≡ Accepted t g
+pub kinds_there : (f : Facts) (s : List ℕ) (t : Site) (g : Gt) → reading f s ≡ accepted_as t g
     → map (λ e. e.kind) (account t s) ≡ site_kinds t.alleles t.infos ++ replicate t.formats Format
 unfolding account site_fields genotype_fields
 kinds_there f s t g h =
@@ -118,7 +118,7 @@ kinds_there f s t g h =
     )
 
 -- the law: GT, as reading tells it, is the field of the account whose key is GT's
-pub accepted_gt : (f : Facts) (s : List ℕ) (t : Site) (g : Gt) → reading f s ≡ Accepted t g → g ≡ gt_in f.gt (of_kind Format (account t s))
+pub accepted_gt : (f : Facts) (s : List ℕ) (t : Site) (g : Gt) → reading f s ≡ accepted_as t g → g ≡ gt_in f.gt (of_kind Format (account t s))
 unfolding genotypes_of
 accepted_gt f s t g h =
     rw (format_fields t s, accepted_people f s t g h)
@@ -131,34 +131,34 @@ neither false b h = (refl, h)
 
 -- a field that is numbered among those whose keys stand once has a key that did not stand earlier
 numbered_new : (n : ℕ) (es : List Entry) (earlier : List ℕ) (key : ℕ) {code len place stop : ℕ} → NoneTwice earlier (keys_of es)
-    → numbered n es ≡ Field key code len place stop → among key earlier ≡ false
+    → numbered n es ≡ found_field key code len place stop → among key earlier ≡ false
 unfolding numbered
 numbered_new n [] earlier key h e = cc
-numbered_new zero (x ∷ es) earlier key h e = let z : x.key ≡ key = cc in rw z at h.0
+numbered_new zero (x ∷ es) earlier key h e = let z = (same_field e).0 in rw z at h.0
 numbered_new (suc n) (x ∷ es) earlier key h e =
     (neither (among key earlier) (eqb x.key key) (rw (among_more key x.key earlier) at (numbered_new n es (earlier ++ (x.key ∷ [])) key h.1 e))).0
 
 numbered_gt : (n : ℕ) (es : List Entry) (earlier : List ℕ) (gt : ℕ) {code len place stop : ℕ} → NoneTwice earlier (keys_of es)
-    → numbered n es ≡ Field gt code len place stop → gt_in gt es ≡ gt_at code len place
+    → numbered n es ≡ found_field gt code len place stop → gt_in gt es ≡ gt_at code len place
 unfolding numbered gt_in
 numbered_gt n [] earlier gt h e = cc
 numbered_gt zero (x ∷ es) earlier gt h e =
-    let z : x.key ≡ gt = cc in
-    let a = eq-eqb x.key gt z in
-    rw a cc
+    let z = same_field e in
+    let a = eq-eqb x.key gt z.0 in
+    rw (a, z.1, z.2, z.3)
 numbered_gt (suc n) (x ∷ es) earlier gt h e =
     let z = rw (among_more gt x.key earlier) at (numbered_new n es (earlier ++ (x.key ∷ [])) gt h.1 e) in
     rw (neither (among gt earlier) (eqb x.key gt) z).1 (numbered_gt n es (earlier ++ (x.key ∷ [])) gt h.1 e)
 
 -- for callers: any FORMAT field that is fetched with GT's key is the GT that reading told
-pub gt_fetched : (f : Facts) (s : List ℕ) (t : Site) (g : Gt) → reading f s ≡ Accepted t g → (n code len place stop : ℕ)
-    → found f Format n s ≡ Field f.gt code len place stop → g ≡ gt_at code len place
+pub gt_fetched : (f : Facts) (s : List ℕ) (t : Site) (g : Gt) → reading f s ≡ accepted_as t g → (n code len place stop : ℕ)
+    → found f Format n s ≡ found_field f.gt code len place stop → g ≡ gt_at code len place
 unfolding found field_of
 gt_fetched f s t g h n code len place stop e =
     accepted_gt f s t g h ∙ numbered_gt n (of_kind Format (account t s)) [] f.gt (accepted_in_turn f s t g h).once (rw h at e)
 
 -- and where none is, reading told none
-none_gt : (gt : ℕ) (es : List Entry) → ((n code len place stop : ℕ) → numbered n es ≢ Field gt code len place stop) → gt_in gt es ≡ no_gt
+none_gt : (gt : ℕ) (es : List Entry) → ((n code len place stop : ℕ) → numbered n es ≢ found_field gt code len place stop) → gt_in gt es ≡ no_gt
 unfolding numbered gt_in
 none_gt gt [] h = refl
 none_gt gt (e ∷ es) h = by-test (eqb e.key gt) refl (none_gt gt es (λ n. h (suc n)))
@@ -167,8 +167,8 @@ none_gt gt (e ∷ es) h = by-test (eqb e.key gt) refl (none_gt gt es (λ n. h (s
     by-test true p on = absurd (h 0 e.code e.len e.place e.stop (rw (eqb-true e.key gt p)))
     by-test false p on = on
 
-pub gt_none : (f : Facts) (s : List ℕ) (t : Site) (g : Gt) → reading f s ≡ Accepted t g
-    → ((n code len place stop : ℕ) → found f Format n s ≢ Field f.gt code len place stop) → g ≡ no_gt
+pub gt_none : (f : Facts) (s : List ℕ) (t : Site) (g : Gt) → reading f s ≡ accepted_as t g
+    → ((n code len place stop : ℕ) → found f Format n s ≢ found_field f.gt code len place stop) → g ≡ no_gt
 unfolding found field_of
 gt_none f s t g h k =
     accepted_gt f s t g h

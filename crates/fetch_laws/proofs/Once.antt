@@ -1,6 +1,6 @@
 -- The genotype block in turn: it is sound where each field is judged sound in turn, no byte is over and no key stands twice, and GT is the one field
 -- with GT's key. Rests on specs/InTurn, proofs/Turns, proofs/FormatFields and the definitions of genotypes.
-use mathlib.Core.Path.{◌≡◌, refl, sym, ◌∙◌, ap}
+use mathlib.Core.Path.{◌≡◌, refl, sym, ◌∙◌}
 use mathlib.Core.List.{List, [], ◌∷◌, ◌++◌}
 use mathlib.Core.Bool.{Bool, true, false}
 use Prim.Native.Nat.{ℕ, zero, suc, ◌+◌, ◌-◌, ◌≤◌}
@@ -13,29 +13,25 @@ use Rattle.words.specs.Lists.{among}
 use Rattle.words.specs.Pick.{pick}
 use Rattle.words.proofs.Pick.{pick_test}
 use Rattle.types.specs.declared.Use.TheVariants.{Format as FormatUse}
-use Rattle.values.specs.Answers.{IntegerInside}
+use Rattle.values.specs.Answers.{IntegerInside, Answer, one, whole}
 use Rattle.values.specs.Values.{keyed}
-use Rattle.values.specs.declared.Integer.{Integer}
-use Rattle.values.specs.declared.Integer.TheVariants.{One, Refused as NoInteger}
-use Rattle.values.specs.declared.Value.{Value}
-use Rattle.values.specs.declared.Value.TheVariants.{Present, Refused as NoValue}
 use Rattle.vectors.specs.Sound.{sound}
 use Rattle.facts.specs.declared.Facts.{Facts}
 use Rattle.fixed.specs.declared.Site.{Site}
 use Rattle.site.specs.Steps.{value_step}
-use Rattle.site.specs.declared.Step.TheVariants.{At}
 use Rattle.genotypes.specs.Formats.{format_field, so_many, formats, none_over, role_of, gt_now, gt_at, no_gt}
 use Rattle.genotypes.specs.declared.Gt.{Gt}
-use Rattle.genotypes.specs.declared.Genotypes.TheVariants.{Sound}
-use Rattle.fetch.specs.Fields.{paired}
+use Rattle.fetch.specs.Fields.{paired, found_field}
 use Rattle.fetch.specs.Account.{fields_of}
 use Rattle.fetch.specs.declared.Kind.TheVariants.{Format}
-use Rattle.fetch.specs.declared.Found.TheVariants.{Field}
 use Rattle.fetch.proofs.Inside.{keyed_inside, drop_past}
 use Rattle.fetch_laws.specs.InTurn.{format_value, format, judging, in_turn, NoneTwice, keys_of, gt_in}
 use Rattle.fetch_laws.proofs.Agree.{went}
 use Rattle.fetch_laws.proofs.FormatFields.{format_there, keyed_integer, formats_field}
 use Rattle.fetch_laws.proofs.Present.{present_typed}
+use Rattle.values.specs.declared.Value.{Value}
+use Rattle.std.specs.Prelude.{Err, Ok}
+use Rattle.values.specs.declared.Integer.{Integer}
 use Rattle.fetch_laws.proofs.Turns.{turns_within}
 
 -- among keys and one more: among them, or that one
@@ -53,19 +49,19 @@ other_key : (key x : ℕ) (earlier : List ℕ) → among key earlier ≡ false �
 other_key key x earlier h k = ne_eqb key x (λ e. let y = rw e at h in let z : ◌≡◌ {A = ℕ} 0 1 = cc in absurd (omega arith))
 
 -- no field is left, and no byte
-none_over_lem : (known : Gt) (at : ℕ) (l : List ℕ) {g : Gt} → none_over known at l ≡ Sound g → (l ≡ []) × (known ≡ g)
+none_over_lem : (known : Gt) (at : ℕ) (l : List ℕ) {g : Gt} → none_over known at l ≡ Ok g → (l ≡ []) × (known ≡ g)
 none_over_lem known at [] h = (refl, cc)
 none_over_lem known at (b ∷ rest) h = let z : ◌≡◌ {A = ℕ} 0 1 = cc in absurd (omega arith)
 
 -- so many FORMAT fields that are sound: each is judged sound in turn, to the last byte, and no key stands twice
 pub record Turns (f : Facts) (t : Site) (n : ℕ) (earlier : List ℕ) (at : ℕ) (l : List ℕ) : Type 0 where
   pub end : ℕ
-  pub walked : in_turn (judging f t) (replicate n Format) at l ≡ At end
+  pub walked : in_turn (judging f t) (replicate n Format) at l ≡ Ok end
   pub over : drop (end - at) l ≡ []
   pub once : NoneTwice earlier (keys_of (fields_of f.people (replicate n Format) at l))
 
 pub formats_turns : (f : Facts) (t : Site) (n : ℕ) (earlier : List ℕ) (known : Gt) (at : ℕ) (l : List ℕ) {g : Gt}
-    → formats f.strings f.people f.gt t.alleles n earlier known at l ≡ Sound g → Turns f t n earlier at l
+    → formats f.strings f.people f.gt t.alleles n earlier known at l ≡ Ok g → Turns f t n earlier at l
 unfolding format_field so_many formats format in_turn fields_of
 formats_turns f t zero earlier known at l h =
     record { end = at; walked = refl; over = rw (sub_self at) (none_over_lem known at l h).0; once = tt }
@@ -90,32 +86,32 @@ record Judged (f : Facts) (t : Site) (at : ℕ) (l : List ℕ) (stop : ℕ) : Ty
   code : ℕ
   len : ℕ
   first : ℕ
-  number : keyed f.strings at l ≡ One key next
-  value : sound f.people t.alleles (role_of key f.gt) next (drop (next - at) l) ≡ Present code len first stop
-  field : paired f.people FormatUse at l ≡ Field key code len first stop
+  number : keyed f.strings at l ≡ one key next
+  value : sound f.people t.alleles (role_of key f.gt) next (drop (next - at) l) ≡ whole code len first stop
+  field : paired f.people FormatUse at l ≡ found_field key code len first stop
   key_later : at ≤ next
   later : next ≤ stop
 
-judged_field : (f : Facts) (t : Site) (at : ℕ) (l : List ℕ) (stop : ℕ) → judging f t Format at l ≡ At stop → Judged f t at l stop
+judged_field : (f : Facts) (t : Site) (at : ℕ) (l : List ℕ) (stop : ℕ) → judging f t Format at l ≡ Ok stop → Judged f t at l stop
 unfolding format paired
 judged_field f t at l stop h = by_key (keyed f.strings at l) refl (keyed_inside f.strings at l) h
   where
-    by_value : (key next : ℕ) (v : Value) → keyed f.strings at l ≡ One key next → at ≤ next
-        → sound f.people t.alleles (role_of key f.gt) next (drop (next - at) l) ≡ v → value_step v ≡ At stop → Judged f t at l stop
-    by_value key next (NoValue r) p a s e = let z : ◌≡◌ {A = ℕ} 0 1 = cc in absurd (omega arith)
-    by_value key next (Present code len first last) p a s e =
-        let z : last ≡ stop = cc in
+    by_value : (key next : ℕ) (v : Answer Value) → keyed f.strings at l ≡ one key next → at ≤ next
+        → sound f.people t.alleles (role_of key f.gt) next (drop (next - at) l) ≡ v → value_step v ≡ Ok stop → Judged f t at l stop
+    by_value key next (Err r) p a s e = let z : ◌≡◌ {A = ℕ} 0 1 = cc in absurd (omega arith)
+    by_value key next (Ok v') p a s e =
+        let z : v'.stop ≡ stop = cc in
         let v = rw z at s in
-        let there = format_there f.people t.alleles key f.gt next (drop (next - at) l) code len first stop v in
-        let i = present_typed f.people FormatUse next (drop (next - at) l) code len first stop there in
+        let there = format_there f.people t.alleles key f.gt next (drop (next - at) l) v'.code v'.len v'.first stop v in
+        let i = present_typed f.people FormatUse next (drop (next - at) l) v'.code v'.len v'.first stop there in
         let x = i.ends in
         let y = i.later in
         record {
           key = key;
           next = next;
-          code = code;
-          len = len;
-          first = first;
+          code = v'.code;
+          len = v'.len;
+          first = v'.first;
           number = p;
           value = v;
           field = rw (keyed_integer f.strings at l key next p, there);
@@ -123,19 +119,19 @@ judged_field f t at l stop h = by_key (keyed f.strings at l) refl (keyed_inside 
           later = omega arith;
         }
 
-    by_key : (i : Integer) → keyed f.strings at l ≡ i → IntegerInside at (at + length l) i → format_value f.people f.gt t.alleles at l i ≡ At stop
+    by_key : (i : Answer Integer) → keyed f.strings at l ≡ i → IntegerInside at (at + length l) i → format_value f.people f.gt t.alleles at l i ≡ Ok stop
         → Judged f t at l stop
-    by_key (NoInteger r) p k e = let z : ◌≡◌ {A = ℕ} 0 1 = cc in absurd (omega arith)
-    by_key (One key next) p k e =
-        by_value key next (sound f.people t.alleles (role_of key f.gt) next (drop (next - at) l)) p (omega arith) refl e
+    by_key (Err r) p k e = let z : ◌≡◌ {A = ℕ} 0 1 = cc in absurd (omega arith)
+    by_key (Ok i) p k e =
+        by_value i.bits i.next (sound f.people t.alleles (role_of i.bits f.gt) i.next (drop (i.next - at) l)) p (omega arith) refl e
 
 -- the other way: fields that are judged sound in turn, to the last byte, and no key twice
 pub record Sounds (f : Facts) (t : Site) (n : ℕ) (earlier : List ℕ) (known : Gt) (at : ℕ) (l : List ℕ) : Type 0 where
   pub gt : Gt
-  pub all : formats f.strings f.people f.gt t.alleles n earlier known at l ≡ Sound gt
+  pub all : formats f.strings f.people f.gt t.alleles n earlier known at l ≡ Ok gt
 
 pub turns_formats : (f : Facts) (t : Site) (n : ℕ) (earlier : List ℕ) (known : Gt) (at : ℕ) (l : List ℕ) {e : ℕ}
-    → in_turn (judging f t) (replicate n Format) at l ≡ At e → drop (e - at) l ≡ []
+    → in_turn (judging f t) (replicate n Format) at l ≡ Ok e → drop (e - at) l ≡ []
     → NoneTwice earlier (keys_of (fields_of f.people (replicate n Format) at l)) → Sounds f t n earlier known at l
 unfolding format_field so_many formats in_turn fields_of
 turns_formats f t zero earlier known at l {e} h o k =
@@ -156,7 +152,7 @@ turns_formats f t (suc n) earlier known at l {e} h o k =
 
 -- GT, once it is known, stays: its key does not stand again
 gt_kept : (f : Facts) (t : Site) (n : ℕ) (earlier : List ℕ) (known : Gt) (at : ℕ) (l : List ℕ) {g : Gt} → among f.gt earlier ≡ true
-    → formats f.strings f.people f.gt t.alleles n earlier known at l ≡ Sound g → known ≡ g
+    → formats f.strings f.people f.gt t.alleles n earlier known at l ≡ Ok g → known ≡ g
 unfolding format_field so_many formats gt_now
 gt_kept f t zero earlier known at l h e = (none_over_lem known at l e).1
 gt_kept f t (suc n) earlier known at l h e =
@@ -166,7 +162,7 @@ gt_kept f t (suc n) earlier known at l h e =
 
 -- and it is the field with GT's key
 pub formats_gt : (f : Facts) (t : Site) (n : ℕ) (earlier : List ℕ) (at : ℕ) (l : List ℕ) {g : Gt}
-    → formats f.strings f.people f.gt t.alleles n earlier no_gt at l ≡ Sound g
+    → formats f.strings f.people f.gt t.alleles n earlier no_gt at l ≡ Ok g
     → g ≡ gt_in f.gt (fields_of f.people (replicate n Format) at l)
 unfolding format_field so_many formats gt_now gt_in fields_of
 formats_gt f t zero earlier at l h = sym (none_over_lem no_gt at l h).1
@@ -176,7 +172,7 @@ formats_gt f t (suc n) earlier at l {g} h =
     (formats_gt f t n (earlier ++ (j.key ∷ [])) j.stop (drop (j.stop - at) l)))
   where
     on : ℕ → ℕ → Gt → Type 0
-    on key stop known = formats f.strings f.people f.gt t.alleles n (earlier ++ (key ∷ [])) known stop (drop (stop - at) l) ≡ Sound g
+    on key stop known = formats f.strings f.people f.gt t.alleles n (earlier ++ (key ∷ [])) known stop (drop (stop - at) l) ≡ Ok g
 
     rest : ℕ → Gt
     rest stop = gt_in f.gt (fields_of f.people (replicate n Format) stop (drop (stop - at) l))

@@ -1,5 +1,5 @@
 -- The front of a record as facts about its fields, both ways. Rests on specs/Fixed and the layout.
-use mathlib.Core.Path.{◌≡◌, refl}
+use mathlib.Core.Path.{◌≡◌, ap, refl}
 use mathlib.Core.List.{List}
 use mathlib.Core.Bool.{Bool, true, false}
 use Prim.Native.Nat.{ℕ, ◌+◌, ◌≤◌}
@@ -13,12 +13,13 @@ use Rattle.words.specs.Words.{outside}
 use Rattle.positions.specs.Positions.{pos_of}
 use Rattle.values.specs.declared.Refusal.{Refusal}
 use Rattle.fixed.specs.Layout.{indiv_at, chrom_at, pos_at, rlen_at, counts_at, people_at, qual_at, id_at, alleles_in, infos_in, formats_in, people_in, most_bytes, field, pos_wrong, rlen_wrong, counts_wrong, people_wrong, qual_wrong}
-use Rattle.fixed.specs.Fixed.{no_site, blocks, wrong_at, site_at, fields, fixed}
+use Rattle.fixed.specs.Fixed.{no_site, blocks, wrong_at, site_at, fields, fixed, lent}
 use Rattle.facts.specs.declared.Facts.{Facts}
-use Rattle.fixed.specs.declared.Site.{Site}
+use Rattle.std.specs.Prelude.{Err, Ok}
 use Rattle.fixed.specs.declared.Blocks.{Blocks}
-use Rattle.fixed.specs.declared.Blocks.TheVariants.{Lent, Refused as NoBlocks}
-use Rattle.fixed.specs.declared.Fixed.TheVariants.{Site as Front}
+use Rattle.values.specs.Answers.{Answer}
+use Rattle.values.proofs.Held.{held}
+use Rattle.fixed.specs.declared.Site.{Site}
 
 -- a list begins with a record's front whose site is t: where it lies, what its fields say, and that each keeps its rule
 pub record Fits (f : Facts) (s : List ℕ) (t : Site) : Type 0 where
@@ -43,12 +44,12 @@ pub record Fits (f : Facts) (s : List ℕ) (t : Site) : Type 0 where
   pub people_right : people_wrong f.people t.formats t.people ≡ false
 
 -- a test that is passed
-lent_on : (c : Bool) (r : Refusal) (x : Blocks) {b w : ℕ} → pick c (NoBlocks r) x ≡ Lent b w → (c ≡ false) × (x ≡ Lent b w)
+lent_on : (c : Bool) (r : Refusal) (x : Answer Blocks) {b w : ℕ} → pick c (Err r) x ≡ lent b w → (c ≡ false) × (x ≡ lent b w)
 lent_on true r x h = let z : ◌≡◌ {A = ℕ} 0 1 = cc in absurd (omega arith)
 lent_on false r x h = (refl, h)
 
-same_lent : (a b c d : ℕ) → Lent a b ≡ Lent c d → (a ≡ c) × (b ≡ d)
-same_lent a b c d h = (cc, cc)
+same_lent : (a b c d : ℕ) → lent a b ≡ lent c d → (a ≡ c) × (b ≡ d)
+same_lent a b c d h = let e = held h in (ap (λ (x : Blocks). x.border) e, ap (λ (x : Blocks). x.length) e)
 
 -- two blocks that are lent: where the border stands and the record ends
 record Lends (s : List ℕ) (b w : ℕ) : Type 0 where
@@ -58,7 +59,7 @@ record Lends (s : List ℕ) (b w : ℕ) : Type 0 where
   most : w ≤ most_bytes
   site : id_at ≤ b
 
-lends : (s : List ℕ) (b w : ℕ) → blocks s ≡ Lent b w → Lends s b w
+lends : (s : List ℕ) (b w : ℕ) → blocks s ≡ lent b w → Lends s b w
 unfolding blocks
 lends s b w h =
     let border = 8 + field 0 s in
@@ -73,7 +74,7 @@ lends s b w h =
     let z = ltb-false border id_at u.0 in
     record { border = e.0; whole = e.1; there = rw e.1 at y; most = rw e.1 at x; site = rw e.0 at z }
 
-blocks_lends : (s : List ℕ) (b w : ℕ) → Lends s b w → blocks s ≡ Lent b w
+blocks_lends : (s : List ℕ) (b w : ℕ) → Lends s b w → blocks s ≡ lent b w
 unfolding blocks
 blocks_lends s b w l =
     let a = l.border in
@@ -108,25 +109,25 @@ wrong_none : (f : Facts) (s : List ℕ) → Right f s → wrong_at f s ≡ 0
 unfolding wrong_at
 wrong_none f s r = rw (r.chrom, r.pos, r.rlen, r.qual, r.counts, r.people)
 
-front_on : (at : ℕ) (x : Site) {t : Site} → pick (eqb at 0) (Front x) (no_site 5 at) ≡ Front t → (at ≡ 0) × (x ≡ t)
+front_on : (at : ℕ) (x : Site) {t : Site} → pick (eqb at 0) (Ok x) (no_site 5 at) ≡ Ok t → (at ≡ 0) × (x ≡ t)
 front_on at x {t} h = by-test (eqb at 0) refl h
   where
-    by-test : (c : Bool) → eqb at 0 ≡ c → pick c (Front x) (no_site 5 at) ≡ Front t → (at ≡ 0) × (x ≡ t)
+    by-test : (c : Bool) → eqb at 0 ≡ c → pick c (Ok x) (no_site 5 at) ≡ Ok t → (at ≡ 0) × (x ≡ t)
     by-test true e k = (eqb-true at 0 e, cc)
     by-test false e k = let z : ◌≡◌ {A = ℕ} 0 1 = cc in absurd (omega arith)
 
 -- what the site of a front says is what its fields say
-pub fixed_fits : (f : Facts) (s : List ℕ) (t : Site) → fixed f s ≡ Front t → Fits f s t
+pub fixed_fits : (f : Facts) (s : List ℕ) (t : Site) → fixed f s ≡ Ok t → Fits f s t
 unfolding fixed site_at
 fixed_fits f s t h = by_blocks (blocks s) refl h
   where
-    by_blocks : (x : Blocks) → blocks s ≡ x → fields f s x ≡ Front t → Fits f s t
-    by_blocks (NoBlocks r) p e = let z : ◌≡◌ {A = ℕ} 0 1 = cc in absurd (omega arith)
-    by_blocks (Lent b w) p e =
-        let l = lends s b w p in
-        let k = front_on (wrong_at f s) (site_at b w s) e in
+    by_blocks : (x : Answer Blocks) → blocks s ≡ x → fields f s x ≡ Ok t → Fits f s t
+    by_blocks (Err r) p e = let z : ◌≡◌ {A = ℕ} 0 1 = cc in absurd (omega arith)
+    by_blocks (Ok b') p e =
+        let l = lends s b'.border b'.length p in
+        let k = front_on (wrong_at f s) (site_at b'.border b'.length s) e in
         let r = none_wrong f s k.0 in
-        let fits : Fits f s (site_at b w s) = record {
+        let fits : Fits f s (site_at b'.border b'.length s) = record {
           border = l.border;
           whole = l.whole;
           there = l.there;
@@ -149,7 +150,7 @@ fixed_fits f s t h = by_blocks (blocks s) refl h
         } in
         rw k.1 at fits
 
-pub fits_blocks : (f : Facts) (s : List ℕ) (t : Site) → Fits f s t → blocks s ≡ Lent t.border t.length
+pub fits_blocks : (f : Facts) (s : List ℕ) (t : Site) → Fits f s t → blocks s ≡ lent t.border t.length
 fits_blocks f s t x =
     blocks_lends s t.border t.length
     (record { border = x.border; whole = x.whole; there = x.there; most = x.most; site = x.site })
@@ -165,7 +166,7 @@ fits_right f s t x =
       people = rw (x.formats, x.people) x.people_right;
     }
 
-pub fits_fixed : (f : Facts) (s : List ℕ) (t : Site) → Fits f s t → fixed f s ≡ Front t
+pub fits_fixed : (f : Facts) (s : List ℕ) (t : Site) → Fits f s t → fixed f s ≡ Ok t
 unfolding fixed site_at
 fits_fixed f s t x =
     rw (

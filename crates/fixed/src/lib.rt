@@ -3,9 +3,8 @@
 #![tactic(auto)]
 
 ghost use Rattle.std.specs.Prelude.{◌≡◌, length};
-ghost use Rattle.values.specs.Answers.{refusal_in};
 ghost use Rattle.fixed.specs.Layout.{field, pos_wrong, people_wrong, qual_wrong};
-ghost use Rattle.fixed.specs.Fixed.{blocks_says, fixed_says, blocks, wrong_at, site_at, fixed, BlocksInside, FixedInside};
+ghost use Rattle.fixed.specs.Fixed.{blocks, wrong_at, site_at, fixed, BlocksInside, FixedInside};
 
 use facts::Facts;
 use positions::BcfPosition;
@@ -13,7 +12,7 @@ use values::Refusal;
 
 // The site of a record: its length, the place where its genotype block begins, the fixed fields and the four counts.
 // QUAL is kept as its 32 bits and is never anything else.
-#[derive(Clone, Copy)]
+#[derive(Clone, Copy, Debug, PartialEq, Eq)]
 pub struct Site {
     pub length: usize,
     pub border: usize,
@@ -28,17 +27,10 @@ pub struct Site {
 }
 
 // The two blocks of a record: where the genotype block begins, and where it ends.
-#[derive(Clone, Copy)]
-pub enum Blocks {
-    Lent { border: usize, length: usize },
-    Refused(Refusal),
-}
-
-// The fixed fields, or the first thing that is wrong at the front of a record.
-#[derive(Clone, Copy)]
-pub enum Fixed {
-    Site(Site),
-    Refused(Refusal),
+#[derive(Clone, Copy, Debug, PartialEq, Eq)]
+pub struct Blocks {
+    pub border: usize,
+    pub length: usize,
 }
 
 // What stands after the fixed fields begins here, with ID.
@@ -78,12 +70,13 @@ fn field_at(s: &[u8], at: usize) -> u32
 }
 
 // The blocks of the record at the start of a slice: where the genotype block begins and ends; or 1, 2, 1, 3 in this order.
-pub fn blocks_of(s: &[u8]) -> Blocks
+#[tactic(auto, unfolding(crate::specs::Fixed::blocks))]
+pub fn blocks_of(s: &[u8]) -> Result<Blocks, Refusal>
     ensures value { result ≡ blocks s.now }
     ensures blocks_inside { BlocksInside (length s.now) result }
 {
     if s.len() < 8 {
-        return Blocks::Refused(Refusal {
+        return Err(Refusal {
             number: 1,
             place: 0,
         });
@@ -91,53 +84,24 @@ pub fn blocks_of(s: &[u8]) -> Blocks
     let border = 8 + field_at(s, 0) as usize;
     let length = border + field_at(s, INDIV) as usize;
     if MOST < length {
-        return Blocks::Refused(Refusal {
+        return Err(Refusal {
             number: 2,
             place: 0,
         });
     }
     if s.len() < length {
-        return Blocks::Refused(Refusal {
+        return Err(Refusal {
             number: 1,
             place: 0,
         });
     }
     if border < ID {
-        return Blocks::Refused(Refusal {
+        return Err(Refusal {
             number: 3,
             place: border,
         });
     }
-    Blocks::Lent { border, length }
-}
-
-// The refusal that the blocks' answer says; number 0 where it says none.
-pub fn blocks_refusal(b: Blocks) -> Refusal
-    ensures { result ≡ refusal_in (blocks_says b) }
-{
-    match b {
-        Blocks::Lent {
-            border: _,
-            length: _,
-        } => Refusal {
-            number: 0,
-            place: 0,
-        },
-        Blocks::Refused(r) => r,
-    }
-}
-
-// The refusal that the answer of a record's front says; number 0 where it says none.
-pub fn fixed_refusal(f: Fixed) -> Refusal
-    ensures { result ≡ refusal_in (fixed_says f) }
-{
-    match f {
-        Fixed::Site(_) => Refusal {
-            number: 0,
-            place: 0,
-        },
-        Fixed::Refused(r) => r,
-    }
+    Ok(Blocks { border, length })
 }
 
 // Whether POS is below −1 or above 2147483646.
@@ -221,20 +185,18 @@ fn site_at(s: &[u8], border: usize, length: usize) -> Site
 
 // The site of the record at the start of a slice, by its blocks and fixed fields; or the blocks' refusal, or 5 at the first field that breaks its
 // rule.
-pub fn fixed_fields(s: &[u8], facts: Facts) -> Fixed
+#[tactic(auto, unfolding(crate::specs::Fixed::fixed))]
+pub fn fixed_fields(s: &[u8], facts: Facts) -> Result<Site, Refusal>
     ensures value { result ≡ fixed facts s.now }
     ensures fixed_inside { FixedInside (length s.now) result }
 {
-    let b = blocks_of(s);
-    let Blocks::Lent { border, length } = b else {
-        return Fixed::Refused(blocks_refusal(b));
-    };
+    let Blocks { border, length } = blocks_of(s)?;
     let wrong = wrong_at(s, facts);
     if wrong != 0 {
-        return Fixed::Refused(Refusal {
+        return Err(Refusal {
             number: 5,
             place: wrong,
         });
     }
-    Fixed::Site(site_at(s, border, length))
+    Ok(site_at(s, border, length))
 }

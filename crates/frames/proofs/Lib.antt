@@ -2,3 +2,4 @@ pub mod Answers
 pub mod Behind
 pub mod Steps
 pub mod Texts
+pub mod Said

@@ -3,28 +3,27 @@ use mathlib.Core.Path.{◌≡◌, refl, ap, ◌∙◌}
 use mathlib.Core.List.{List, [], ◌∷◌, map}
 use mathlib.Core.Bool.{Bool, true, false}
 use mathlib.Core.Option.{Option, none, some}
-use Prim.Native.Nat.{ℕ, ◌+◌, ◌<◌, ◌≤◌}
+use Prim.Native.Nat.{ℕ, ◌+◌, ◌-◌, ◌<◌, ◌≤◌}
 use native.Mathlib.Omega.{arith}
 use lib.Dec.{ltb}
-use lib.ListN.{length, take}
+use lib.ListN.{length, take, drop}
 use lib.Seq.{sets}
 use borrow.Author.Tests.{le-ltb, ltb-false}
 use Rattle.words.specs.Pick.{pick}
+use Rattle.frames.proofs.Behind.{part_room}
 use Rattle.stores.specs.Stores.{fits}
 use Rattle.stores.proofs.Room.{room_there}
 use Rattle.lines.specs.Lines.{lines_of}
 use Rattle.lines.specs.Pieces.{joined, LinesTaken}
 use Rattle.lines.proofs.Pieces.{lines_taken_lem}
 use Rattle.hexadecimal.specs.Hexadecimal.{facts_of, frame_of, stored}
-use Rattle.hexadecimal.specs.declared.FactsLine.{FactsLine}
-use Rattle.hexadecimal.specs.declared.FactsLine.TheVariants.{Facts as AreFacts, NoFacts}
+use Rattle.std.specs.Prelude.{Option as StdOption, Some, None}
 use Rattle.hexadecimal.proofs.Cut.{facts_cut, frame_cut}
 use Rattle.hexadecimal.proofs.Rooms.{frame_most}
 use Rattle.facts.specs.declared.Facts.{Facts}
 use Rattle.frames.specs.Frames.{answer_line, framed, text_room, line_said, line_said_in, decoded}
 use Rattle.frames.specs.Steps.{stage_after, line_text, end_text, text_from, frame_room, step_room}
 use Rattle.frames.specs.Printed.{answers, after_first, printed_lines, printed, StepsPrinted}
-use Rattle.frames.specs.declared.Answer.TheVariants.{Text}
 use Rattle.frames.specs.declared.Stage.{Stage}
 use Rattle.frames.specs.declared.Stage.TheVariants.{First, Records, Ended}
 
@@ -47,19 +46,29 @@ framed_there room short there line h = by-frame (frame_of line) refl
         let m = frame_most line bs e in
         rw (le-ltb room (length bs) (omega (arith, m)))
 
-pub said_there : (room : ℕ) (out : List ℕ) (f : Facts) (line : List ℕ) → frame_room ≤ room → text_room ≤ length out
-    → line_said room (length out) f line ≡ Text (length (answer_line f line))
+said_there : (room : ℕ) (out : List ℕ) (f : Facts) (line : List ℕ) → frame_room ≤ room → text_room ≤ length out
+    → line_said room (length out) f line ≡ Some (length (answer_line f line))
 unfolding line_said
-said_there room out f line h k = rw (le-ltb (length out) text_room k) (framed_there room _ (Text (length (answer_line f line))) line h)
+said_there room out f line h k = rw (le-ltb (length out) text_room k) (framed_there room _ (Some (length (answer_line f line))) line h)
 
-pub said_in_there : (room : ℕ) (out : List ℕ) (f : Facts) (line : List ℕ) → frame_room ≤ room → text_room ≤ length out
+said_in_there : (room : ℕ) (out : List ℕ) (f : Facts) (line : List ℕ) → frame_room ≤ room → text_room ≤ length out
     → line_said_in room out f line ≡ sets out 0 (answer_line f line)
 unfolding line_said_in
 said_in_there room out f line h k = rw (le-ltb (length out) text_room k) (framed_there room out (sets out 0 (answer_line f line)) line h)
 
-pub decoded_there : (frame : List ℕ) (out : ℕ) (line : List ℕ) → text_room ≤ out → decoded frame out line ≡ stored frame (frame_of line)
+decoded_there : (frame : List ℕ) (out : ℕ) (line : List ℕ) → text_room ≤ out → decoded frame out line ≡ stored frame (frame_of line)
 unfolding decoded
 decoded_there frame out line k = rw (le-ltb out text_room k)
+
+-- the answer to a line, and its buffers, behind what waits
+pub answer_behind : (frame out line : List ℕ) (w : ℕ) (f : Facts) → frame_room ≤ length frame → w + text_room ≤ length out
+    → (line_said (length frame) (length (take (length out - w) (drop w out))) f line ≡ Some (length (answer_line f line)))
+    × (line_said_in (length frame) (take (length out - w) (drop w out)) f line ≡ sets (take (length out - w) (drop w out)) 0 (answer_line f line))
+    × (decoded frame (length (take (length out - w) (drop w out))) line ≡ stored frame (frame_of line))
+answer_behind frame out line w f h k =
+    let mid = take (length out - w) (drop w out) in
+    let room : text_room ≤ length mid = part_room out w text_room k in
+    (said_there (length frame) mid f line h room, said_in_there (length frame) mid f line h room, decoded_there frame (length mid) line room)
 
 -- a line that is cut behind what it may have is answered as the whole line is
 step_cut : (n : ℕ) (stage : Stage) (l : List ℕ) → 60000 < n
@@ -81,7 +90,7 @@ unfolding text_from answers end_text line_text stage_after
 text_records f [] = refl
 text_records f (l ∷ ls) = rw (text_records f ls)
 
-text_ended : (ls : List (List ℕ)) → text_from Ended ls ≡ []
+pub text_ended : (ls : List (List ℕ)) → text_from Ended ls ≡ []
 unfolding text_from end_text line_text stage_after
 text_ended [] = refl
 text_ended (l ∷ ls) = text_ended ls
@@ -91,9 +100,9 @@ unfolding text_from end_text line_text stage_after
 text_first [] = refl
 text_first (l ∷ ls) = by-facts (facts_of l) refl
   where
-    by-facts : (o : FactsLine) → facts_of l ≡ o → text_from First (l ∷ ls) ≡ after_first answers o ls
-    by-facts (AreFacts f) e = rw e (text_records f ls)
-    by-facts NoFacts e = rw (e, text_ended ls)
+    by-facts : (o : StdOption Facts) → facts_of l ≡ o → text_from First (l ∷ ls) ≡ after_first answers o ls
+    by-facts (Some f) e = rw e (text_records f ls)
+    by-facts None e = rw (e, text_ended ls)
 
 pub steps_printed : StepsPrinted
 unfolding StepsPrinted LinesTaken printed

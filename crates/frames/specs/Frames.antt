@@ -1,5 +1,5 @@
 -- The answer to a record's line, the whole text of it. Rests on hexadecimal for the line, on reading, and on the tally.
-use Rattle.std.specs.Prelude.{ℕ, ◌+◌, ◌≤◌, List, [], ◌∷◌, ◌++◌, ltb, length, take}
+use Rattle.std.specs.Prelude.{ℕ, ◌+◌, ◌≤◌, List, [], ◌∷◌, ◌++◌, ltb, length, take, Option as StdOption, None, Some, Err, Ok}
 use Rattle.std.proofs.Math.Option.{Option, none, some}
 use Rattle.std.proofs.lemmas.List.Edits.{sets}
 use Rattle.words.specs.Pick.{pick}
@@ -8,12 +8,10 @@ use Rattle.facts.specs.declared.Facts.{Facts}
 use Rattle.fixed.specs.declared.Site.{Site}
 use Rattle.genotypes.specs.declared.Gt.{Gt}
 use Rattle.record.specs.Reading.{reading}
-use Rattle.record.specs.declared.Reading.{Reading}
-use Rattle.record.specs.declared.Reading.TheVariants.{Accepted, Refused}
 use Rattle.tally.specs.Tally.{calls_of}
+use Rattle.record.specs.declared.Reading.{Reading}
+use Rattle.values.specs.Answers.{Answer}
 use Rattle.frames.specs.Text.{ok_line, no_line, bad_line}
-use Rattle.frames.specs.declared.Answer.{Answer}
-use Rattle.frames.specs.declared.Answer.TheVariants.{Text, NoRoom}
 
 -- length, alleles, INFO fields, FORMAT fields, people
 abbrev pub record_numbers : Site → List ℕ
@@ -30,9 +28,9 @@ unfoldable pub accepted_line : Site → Gt → List ℕ → List ℕ
 accepted_line t g bs = ok_line (record_numbers t ++ call_numbers t g bs)
 
 -- `no` with the refusal's number and place; `bad` where bytes follow an accepted record; else `ok`
-abbrev pub read_line : List ℕ → Reading → List ℕ
-read_line bs (Refused r) = no_line (r.number ∷ r.place ∷ [])
-read_line bs (Accepted t g) = pick (ltb t.length (length bs)) bad_line (accepted_line t g bs)
+abbrev pub read_line : List ℕ → Answer Reading → List ℕ
+read_line bs (Err r) = no_line (r.number ∷ r.place ∷ [])
+read_line bs (Ok a) = pick (ltb a.site.length (length bs)) bad_line (accepted_line a.site a.gt bs)
 
 unfoldable pub record_line : Facts → List ℕ → List ℕ
 record_line f bs = read_line bs (reading f bs)
@@ -50,8 +48,8 @@ abbrev pub text_room : ℕ
 text_room = 2048
 
 -- a text that is said, and its buffer: the text at the buffer's start and its length; nothing where any answer would have no room
-unfoldable pub said : ℕ → List ℕ → Answer
-said room text = pick (ltb room text_room) NoRoom (Text (length text))
+unfoldable pub said : ℕ → List ℕ → StdOption ℕ
+said room text = pick (ltb room text_room) None (Some (length text))
 
 unfoldable pub said_in : List ℕ → List ℕ → List ℕ
 said_in out text = pick (ltb (length out) text_room) out (sets out 0 text)
@@ -62,8 +60,8 @@ abbrev pub framed : {A : Type 0} → ℕ → A → A → Option (List ℕ) → A
 framed room short fits none = fits
 framed room short fits (some bs) = pick (ltb room (length bs)) short fits
 
-unfoldable pub line_said : ℕ → ℕ → Facts → List ℕ → Answer
-line_said frame out f line = pick (ltb out text_room) NoRoom (framed frame NoRoom (Text (length (answer_line f line))) (frame_of line))
+unfoldable pub line_said : ℕ → ℕ → Facts → List ℕ → StdOption ℕ
+line_said frame out f line = pick (ltb out text_room) None (framed frame None (Some (length (answer_line f line))) (frame_of line))
 
 unfoldable pub line_said_in : ℕ → List ℕ → Facts → List ℕ → List ℕ
 line_said_in frame out f line = pick (ltb (length out) text_room) out (framed frame out (sets out 0 (answer_line f line)) (frame_of line))
@@ -73,11 +71,11 @@ unfoldable pub decoded : List ℕ → ℕ → List ℕ → List ℕ
 decoded frame out line = pick (ltb out text_room) frame (stored frame (frame_of line))
 
 -- the text lies in its buffer
-abbrev pub TextInside : ℕ → Answer → Type 0
-TextInside end (Text n) = n ≤ end
-TextInside end NoRoom = Unit {0}
+abbrev pub TextInside : ℕ → StdOption ℕ → Type 0
+TextInside end (Some n) = n ≤ end
+TextInside end None = Unit {0}
 
 -- an answer in 01's terms, its number and its value: number 0 and the length of the text; 13 at place 0 where a buffer is too short
-abbrev pub answer_told : Answer → ℕ × ℕ
-answer_told (Text n) = (0, n)
-answer_told NoRoom = (13, 0)
+abbrev pub answer_told : StdOption ℕ → ℕ × ℕ
+answer_told (Some n) = (0, n)
+answer_told None = (13, 0)

@@ -3,8 +3,7 @@ use Rattle.std.specs.Prelude.{◌≡◌, ℕ, ◌+◌, ◌<◌, List, [], ◌∷
 use Rattle.lines.specs.Lines.{lines_of}
 use Rattle.lines.specs.Pieces.{joined, lines_taken}
 use Rattle.hexadecimal.specs.Hexadecimal.{facts_of}
-use Rattle.hexadecimal.specs.declared.FactsLine.{FactsLine}
-use Rattle.hexadecimal.specs.declared.FactsLine.TheVariants.{Facts as AreFacts, NoFacts}
+use Rattle.std.specs.Prelude.{Option as StdOption, Some, None}
 use Rattle.facts.specs.declared.Facts.{Facts}
 use Rattle.frames.specs.Text.{bad_line}
 use Rattle.frames.specs.Frames.{answer_line}
@@ -17,9 +16,9 @@ answers f [] = []
 answers f (l ∷ ls) = answer_line f l ++ answers f ls
 
 -- of any line program, by what it prints for the lines after the facts: a first line that is absent or isn't 32 digits prints `bad` and ends it
-abbrev pub after_first : (Facts → List (List ℕ) → List ℕ) → FactsLine → List (List ℕ) → List ℕ
-after_first rest NoFacts ls = bad_line
-after_first rest (AreFacts f) ls = rest f ls
+abbrev pub after_first : (Facts → List (List ℕ) → List ℕ) → StdOption Facts → List (List ℕ) → List ℕ
+after_first rest None ls = bad_line
+after_first rest (Some f) ls = rest f ls
 
 abbrev pub printed_lines : (Facts → List (List ℕ) → List ℕ) → List (List ℕ) → List ℕ
 printed_lines rest [] = bad_line

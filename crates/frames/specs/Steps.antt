@@ -4,23 +4,22 @@ use Rattle.std.proofs.lemmas.List.Edits.{sets}
 use Rattle.words.specs.Pick.{pick}
 use Rattle.stores.specs.Stores.{fits}
 use Rattle.hexadecimal.specs.Hexadecimal.{facts_of, frame_of, stored}
-use Rattle.hexadecimal.specs.declared.FactsLine.{FactsLine}
-use Rattle.hexadecimal.specs.declared.FactsLine.TheVariants.{Facts as AreFacts, NoFacts}
+use Rattle.std.specs.Prelude.{Option as StdOption, Some, None}
+use Rattle.facts.specs.declared.Facts.{Facts}
 use Rattle.frames.specs.Text.{bad_line}
 use Rattle.frames.specs.Frames.{answer_line, text_room}
 use Rattle.frames.specs.declared.Stage.{Stage}
 use Rattle.frames.specs.declared.Stage.TheVariants.{First, Records, Ended}
-use Rattle.frames.specs.declared.Stepped.{Stepped}
-use Rattle.frames.specs.declared.Stepped.TheVariants.{Next, NoRoom}
+use Rattle.frames.specs.declared.Next.{Next}
 
 -- where the input stands after its first line, and what that line adds: records follow the facts; a line that isn't 32 digits is `bad` and ends it
-abbrev pub stage_opened : FactsLine → Stage
-stage_opened (AreFacts f) = Records f
-stage_opened NoFacts = Ended
+abbrev pub stage_opened : StdOption Facts → Stage
+stage_opened (Some f) = Records f
+stage_opened None = Ended
 
-abbrev pub text_opened : FactsLine → List ℕ
-text_opened (AreFacts f) = []
-text_opened NoFacts = bad_line
+abbrev pub text_opened : StdOption Facts → List ℕ
+text_opened (Some f) = []
+text_opened None = bad_line
 
 -- the same of any line, by where the input stands before it
 unfoldable pub stage_after : Stage → List ℕ → Stage
@@ -63,10 +62,14 @@ frame_room = 30000
 unfoldable pub step_room : ℕ → ℕ → ℕ → Bool
 step_room frame out waiting = pick (ltb frame frame_room) false (fits out waiting text_room)
 
+-- after a line: where the input stands then, and how much text waits
+abbrev pub next : {S : Type 0} → S → ℕ → StdOption (Next S)
+next s n = Some (record { stage = s; waiting = n })
+
 -- what is answered to a line, and the buffers then: its text behind what waits, and a record's bytes in their own; nothing where one is too short
-unfoldable pub stepped : ℕ → ℕ → ℕ → Stage → List ℕ → Stepped
+unfoldable pub stepped : ℕ → ℕ → ℕ → Stage → List ℕ → StdOption (Next Stage)
 stepped frame out waiting stage line =
-    pick (step_room frame out waiting) (Next (stage_after stage line) (waiting + length (line_text stage line))) NoRoom
+    pick (step_room frame out waiting) (next (stage_after stage line) (waiting + length (line_text stage line))) None
 
 unfoldable pub stepped_out : ℕ → List ℕ → ℕ → Stage → List ℕ → List ℕ
 stepped_out frame out waiting stage line = pick (step_room frame (length out) waiting) (sets out waiting (line_text stage line)) out
@@ -80,18 +83,18 @@ unfoldable pub stepped_frame : List ℕ → ℕ → ℕ → Stage → List ℕ �
 stepped_frame frame out waiting stage line = pick (step_room (length frame) out waiting) (frame_after frame stage line) frame
 
 -- what is answered to the end of the input, and the buffer then
-unfoldable pub finished : ℕ → ℕ → Stage → Stepped
-finished out waiting stage = pick (fits out waiting text_room) (Next (stage_at_end stage) (waiting + length (end_text stage))) NoRoom
+unfoldable pub finished : ℕ → ℕ → Stage → StdOption (Next Stage)
+finished out waiting stage = pick (fits out waiting text_room) (next (stage_at_end stage) (waiting + length (end_text stage))) None
 
 unfoldable pub finished_out : List ℕ → ℕ → Stage → List ℕ
 finished_out out waiting stage = pick (fits (length out) waiting text_room) (sets out waiting (end_text stage)) out
 
 -- the text that waits lies in its buffer
-abbrev pub StepInside : ℕ → Stepped → Type 0
-StepInside end (Next stage waiting) = waiting ≤ end
-StepInside end NoRoom = Unit {0}
+abbrev pub StepInside : {S : Type 0} → ℕ → StdOption (Next S) → Type 0
+StepInside end (Some n) = n.waiting ≤ end
+StepInside end None = Unit {0}
 
 -- a step in 01's terms, its number and its value: number 0 and how much text waits; 13 at place 0 where a buffer is too short
-abbrev pub step_told : Stepped → ℕ × ℕ
-step_told (Next stage waiting) = (0, waiting)
-step_told NoRoom = (13, 0)
+abbrev pub step_told : {S : Type 0} → StdOption (Next S) → ℕ × ℕ
+step_told (Some n) = (0, n.waiting)
+step_told None = (13, 0)

@@ -1,13 +1,9 @@
--- A key among some: one turn of the loops that compare it. Rests on `among`.
-use mathlib.Core.Path.{◌≡◌, refl, sym, ◌∙◌, ap}
-use mathlib.Core.List.{List, [], ◌∷◌, ◌++◌}
-use mathlib.Core.Bool.{Bool, true, false}
-use Prim.Native.Nat.{ℕ, zero, suc, ◌+◌, ◌-◌, ◌<◌, ◌≤◌}
-use native.Mathlib.Omega.{arith}
-use native.Mathlib.Numerals.{add-one, sub-one}
-use lib.Dec.{eqb}
-use lib.ListN.{length, get_or, take, drop}
-use lib.Seq.{drop-cons, take-suc, take-add, take-length}
+-- A key among some: looked for in parts, or in the keys backwards. Rests on `among`.
+use Rattle.std.proofs.Common.{◌≡◌, refl, sym, ap, ◌∙◌, ℕ, ◌+◌, ◌%◌, ◌<◌, Bool, true, false, ◌||◌, eqb, List, [], ◌∷◌, ◌++◌, length, get_or, take, drop, reverse, arith, add-one}
+use Rattle.std.specs.List.{list_any}
+use Rattle.std.proofs.Math.Seq.{drop-cons}
+use Rattle.std.proofs.lemmas.List.{nil_from_length, reverse-append, take-append-drop}
+use Rattle.std.proofs.lemmas.List.Folds.{list_any-append}
 use Rattle.words.specs.Lists.{among}
 use Rattle.words.specs.Pick.{pick}
 use Rattle.words.proofs.Pick.{pick_test}
@@ -24,34 +20,39 @@ unfolding among
 among_append key [] ys = sym (pick_test (among key ys))
 among_append key (x ∷ xs) ys = rw (among_append key xs ys) (either (eqb x key) (among key ys) (among key xs))
 
--- among the first ones, of which those from a place on are looked at first
-nearest : (keys : List ℕ) (key from to : ℕ) → from ≤ to
-    → among key (take to keys) ≡ pick (among key (take (to - from) (drop from keys))) true (among key (take from keys))
-nearest keys key from to h =
-    let parts : to ≡ from + (to - from) = omega arith in
-    ap (λ n. among key (take n keys)) parts
-    ∙ rw (take-add from (to - from) keys) (among_append key (take from keys) (take (to - from) (drop from keys)))
+pub among_cut : (key : ℕ) (all xs ys : List ℕ) → all ≡ xs ++ ys → among key all ≡ pick (among key ys) true (among key xs)
+among_cut key all xs ys e = rw e (among_append key xs ys)
 
--- a row that ends there
-pub nearest_row : (keys : List ℕ) (key row to : ℕ) → row ≤ to
-    → among key (take to keys) ≡ pick (among key (take (to - row + row - (to - row)) (drop (to - row) keys))) true (among key (take (to - row) keys))
-nearest_row keys key row to h =
-    let back : to ≡ to - row + row = omega arith in
-    ap (λ n. among key (take n keys)) back ∙ nearest keys key (to - row) (to - row + row) (omega arith)
+pub among_split : (keys : List ℕ) (key from : ℕ) → among key keys ≡ pick (among key (drop from keys)) true (among key (take from keys))
+among_split keys key from = among_cut key keys (take from keys) (drop from keys) (sym (take-append-drop from keys))
 
--- and among all of them
-pub nearest_of_all : (keys : List ℕ) (key from : ℕ) → from ≤ length keys
-    → among key keys ≡ pick (among key (take (length keys - from) (drop from keys))) true (among key (take from keys))
-nearest_of_all keys key from h = ap (among key) (sym (take-length keys)) ∙ nearest keys key from (length keys) h
+-- whole rows of four: nothing stands before them, and nothing is left
+pub rows_whole : (rows before rest : List ℕ) → rows ≡ before ++ rest → length before ≡ length rows % 4 → length rows % 4 ≡ 0 → rest ≡ rows
+rows_whole rows before rest e n w =
+    let none : before ≡ [] = nil_from_length before (omega arith) in
+    sym (rw none at e)
 
--- among the first ones, from the nearest of them backwards
-pub few_turn : (keys : List ℕ) (key i : ℕ) → 0 < i → i ≤ length keys
-    → among key (take i keys) ≡ pick (among key (get_or keys (i - 1) 0 ∷ [])) true (among key (take (i - 1) keys))
-few_turn keys key zero h b = absurd (omega arith)
-few_turn keys key (suc i) h b = rw (sub-one, take-suc keys i 0 b, among_append key (take i keys) (get_or keys i 0 ∷ []))
+pub among_none : (key : ℕ) (keys : List ℕ) → length keys < 4 → length keys % 4 ≡ 0 → among key keys ≡ false
+unfolding among
+among_none key keys h e = rw (nil_from_length keys (omega arith)) refl
 
 -- met already or among those left of a row, where some are
-pub sweep_turn : (row : List ℕ) (key i : ℕ) (met : Bool) → i < length row
-    → pick met true (among key (drop i row)) ≡ pick (eqb (get_or row i 0) key) true (pick met true (among key (drop (i + 1) row)))
+pub among_turn : (row : List ℕ) (key i : ℕ) (met : Bool) → i < length row
+    → pick met true (among key (drop i row)) ≡ pick (met || eqb (get_or row i 0) key) true (among key (drop (i + 1) row))
 unfolding among
-sweep_turn row key i met h = rw (drop-cons row i 0 h, add-one) (either met (eqb (get_or row i 0) key) (among key (drop (suc i) row)))
+among_turn row key i true h = refl
+among_turn row key i false h = rw (drop-cons row i 0 h, add-one) refl
+
+later : (a b : Bool) → (b || (a || false)) ≡ pick a true b
+later true true = refl
+later true false = refl
+later false true = refl
+later false false = refl
+
+-- the last looked at first
+pub among_reversed : (key : ℕ) (xs : List ℕ) → list_any (λ k. eqb k key) (reverse xs) ≡ among key xs
+unfolding among
+among_reversed key [] = refl
+among_reversed key (x ∷ xs) =
+    ap (list_any (λ k. eqb k key)) (reverse-append (x ∷ []) xs)
+    ∙ rw (list_any-append, among_reversed key xs) (later (eqb x key) (among key xs))

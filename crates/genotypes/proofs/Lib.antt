@@ -1,3 +1,4 @@
 mod Earlier
 mod Parts
 pub mod Turns
+pub mod Said

@@ -1,36 +1,34 @@
 -- FORMAT fields: a key, no key twice, and people times length elements, each person's vector in turn; GT has its own rule.
 -- Rests on values and vectors.
-use Rattle.std.specs.Prelude.{ℕ, zero, suc, ◌+◌, ◌-◌, ◌*◌, min, ◌<◌, ◌≤◌, List, [], ◌∷◌, ◌++◌, eqb, length, take, drop}
+use Rattle.std.specs.Prelude.{ℕ, zero, suc, ◌+◌, ◌-◌, ◌*◌, min, ◌<◌, ◌≤◌, List, [], ◌∷◌, ◌++◌, eqb, length, take, drop, Err, Ok}
 use Rattle.words.specs.Lists.{among}
 use Rattle.words.specs.Pick.{pick}
 use Rattle.types.specs.Rows.{width_of}
 use Rattle.types.specs.declared.Use.{Use}
 use Rattle.types.specs.declared.Use.TheVariants.{Format, Gt as GtUse}
-use Rattle.values.specs.Answers.{refusal, Says, refuses, holds}
+use Rattle.values.specs.Answers.{refusal, Says, refuses, holds, Answer}
 use Rattle.values.specs.Values.{keyed}
 use Rattle.values.specs.declared.Refusal.{Refusal}
-use Rattle.values.specs.declared.Integer.{Integer}
-use Rattle.values.specs.declared.Integer.TheVariants.{One, Refused as NoInteger}
-use Rattle.values.specs.declared.Value.{Value}
-use Rattle.values.specs.declared.Value.TheVariants.{Present, Refused as NoValue}
 use Rattle.vectors.specs.Sound.{sound}
-use Rattle.genotypes.specs.declared.Gt.{Gt}
 use Rattle.genotypes.specs.declared.FormatField.{FormatField}
-use Rattle.genotypes.specs.declared.FormatField.TheVariants.{Whole, Refused as NoField}
-use Rattle.genotypes.specs.declared.Genotypes.{Genotypes}
-use Rattle.genotypes.specs.declared.Genotypes.TheVariants.{Sound, Refused}
+use Rattle.values.specs.declared.Value.{Value}
+use Rattle.values.specs.declared.Integer.{Integer}
+use Rattle.genotypes.specs.declared.Gt.{Gt}
 
 -- 01's number and values for each case: a field, refused or with its key, type, length for each person, and the places of its first element and after
 -- its last; the block, refused or sound, with where GT stands
-abbrev pub no_field : ℕ → ℕ → FormatField
-no_field n p = NoField (refusal n p)
+abbrev pub no_field : ℕ → ℕ → Answer FormatField
+no_field n p = Err (refusal n p)
 
-abbrev pub field_says : FormatField → Says
-field_says (NoField r) = refuses r
-field_says (Whole key t n first stop) = holds (key ∷ t ∷ n ∷ first ∷ stop ∷ [])
+abbrev pub whole_field : ℕ → ℕ → ℕ → ℕ → ℕ → Answer FormatField
+whole_field key t n first stop = Ok (record { key = key; code = t; len = n; first = first; stop = stop })
 
-abbrev pub no_genotypes : ℕ → ℕ → Genotypes
-no_genotypes n p = Refused (refusal n p)
+abbrev pub field_says : Answer FormatField → Says
+field_says (Err r) = refuses r
+field_says (Ok w) = holds (w.key ∷ w.code ∷ w.len ∷ w.first ∷ w.stop ∷ [])
+
+abbrev pub no_genotypes : ℕ → ℕ → Answer Gt
+no_genotypes n p = Err (refusal n p)
 
 -- where GT stands: type, length for each person, place of its first element
 abbrev pub gt_at : ℕ → ℕ → ℕ → Gt
@@ -50,9 +48,9 @@ gt_part_at g s = min g.first (length s)
 abbrev pub gt_values : Gt → List ℕ
 gt_values g = g.code ∷ g.len ∷ g.first ∷ []
 
-abbrev pub genotypes_says : Genotypes → Says
-genotypes_says (Refused r) = refuses r
-genotypes_says (Sound g) = holds (gt_values g)
+abbrev pub genotypes_says : Answer Gt → Says
+genotypes_says (Err r) = refuses r
+genotypes_says (Ok g) = holds (gt_values g)
 
 -- the key that is GT's makes its value GT
 unfoldable pub role_of : ℕ → ℕ → Use
@@ -62,18 +60,18 @@ unfoldable pub gt_now : ℕ → ℕ → Gt → Gt → Gt
 gt_now key gt field known = pick (eqb key gt) field known
 
 -- a field's value, with its key
-abbrev pub with_value : ℕ → Value → FormatField
-with_value key (NoValue r) = NoField r
-with_value key (Present t n first stop) = Whole key t n first stop
+abbrev pub with_value : ℕ → Answer Value → Answer FormatField
+with_value key (Err r) = Err r
+with_value key (Ok v) = whole_field key v.code v.len v.first v.stop
 
 -- a field's key: 11 at its element where it stood earlier; then the value, by its use
-abbrev pub after_key : ℕ → ℕ → ℕ → List ℕ → ℕ → List ℕ → Integer → FormatField
-after_key people gt alleles earlier at l (NoInteger r) = NoField r
-after_key people gt alleles earlier at l (One key next) =
-    pick (among key earlier) (no_field 11 (at + 1)) (with_value key (sound people alleles (role_of key gt) next (drop (next - at) l)))
+abbrev pub after_key : ℕ → ℕ → ℕ → List ℕ → ℕ → List ℕ → Answer Integer → Answer FormatField
+after_key people gt alleles earlier at l (Err r) = Err r
+after_key people gt alleles earlier at l (Ok i) =
+    pick (among i.bits earlier) (no_field 11 (at + 1)) (with_value i.bits (sound people alleles (role_of i.bits gt) i.next (drop (i.next - at) l)))
 
 -- one field, under the dictionary's size, the people, GT's offset and the alleles; after earlier keys
-unfoldable pub format_field : ℕ → ℕ → ℕ → ℕ → List ℕ → ℕ → List ℕ → FormatField
+unfoldable pub format_field : ℕ → ℕ → ℕ → ℕ → List ℕ → ℕ → List ℕ → Answer FormatField
 format_field strings people gt alleles earlier at l = after_key people gt alleles earlier at l (keyed strings at l)
 
 -- what is known before a field: the keys of those before it, GT as far as it is among them, the place, and what is left of the block
@@ -89,14 +87,14 @@ pub data Came : Type 0 where
   came_to : Before → Came
 
 -- after a field its key is an earlier one, and the field is GT where its key is GT's; the next stands where it ends
-abbrev pub after_field : ℕ → Before → FormatField → Came
-after_field gt b (NoField r) = refused_by r
-after_field gt b (Whole key t n first stop) =
+abbrev pub after_field : ℕ → Before → Answer FormatField → Came
+after_field gt b (Err r) = refused_by r
+after_field gt b (Ok w) =
     came_to (record {
-      earlier = b.earlier ++ (key ∷ []);
-      known = gt_now key gt (gt_at t n first) b.known;
-      at = stop;
-      left = drop (stop - b.at) b.left;
+      earlier = b.earlier ++ (w.key ∷ []);
+      known = gt_now w.key gt (gt_at w.code w.len w.first) b.known;
+      at = w.stop;
+      left = drop (w.stop - b.at) b.left;
     })
 
 abbrev pub format_step : ℕ → ℕ → ℕ → ℕ → Before → Came
@@ -112,20 +110,20 @@ so_many step zero b = came_to b
 so_many step (suc n) b = and_on (step b) (so_many step n)
 
 -- no field is left: the end of the block, or the first byte over
-abbrev pub none_over : Gt → ℕ → List ℕ → Genotypes
-none_over known at [] = Sound known
+abbrev pub none_over : Gt → ℕ → List ℕ → Answer Gt
+none_over known at [] = Ok known
 none_over known at (b ∷ rest) = no_genotypes 4 at
 
-abbrev pub all_read : Came → Genotypes
-all_read (refused_by r) = Refused r
+abbrev pub all_read : Came → Answer Gt
+all_read (refused_by r) = Err r
 all_read (came_to b) = none_over b.known b.at b.left
 
 -- so many fields, one after the other, and then the end of the block; after earlier keys, with GT as far as it is known
-unfoldable pub formats : ℕ → ℕ → ℕ → ℕ → ℕ → List ℕ → Gt → ℕ → List ℕ → Genotypes
+unfoldable pub formats : ℕ → ℕ → ℕ → ℕ → ℕ → List ℕ → Gt → ℕ → List ℕ → Answer Gt
 formats strings people gt alleles n earlier known at l =
     all_read (so_many (format_step strings people gt alleles) n (record { earlier = earlier; known = known; at = at; left = l }))
 
 -- a field lies after a place, and in the block, which has so many bytes
-abbrev pub FieldInside : ℕ → ℕ → FormatField → Type 0
-FieldInside at end (NoField r) = Unit {0}
-FieldInside at end (Whole key t n first stop) = (at < first) × (first ≤ stop) × (stop ≤ end)
+abbrev pub FieldInside : ℕ → ℕ → Answer FormatField → Type 0
+FieldInside at end (Err r) = Unit {0}
+FieldInside at end (Ok w) = (at < w.first) × (w.first ≤ w.stop) × (w.stop ≤ end)

@@ -4,71 +4,28 @@
 
 ghost use Rattle.std.specs.Prelude.{◌≡◌, ◌+◌, ◌%◌, ◌≤◌, drop, length, take, []};
 ghost use Rattle.words.specs.Lists.{among};
-ghost use Rattle.values.specs.Answers.{refusal_in};
-ghost use Rattle.genotypes.specs.Formats.{field_says, FieldInside, genotypes_says, role_of, gt_now, no_gt, format_field, formats, gt_part, gt_part_at};
+ghost use Rattle.genotypes.specs.Formats.{FieldInside, role_of, gt_now, no_gt, format_field, formats, gt_part, gt_part_at};
 
 use facts::Facts;
 use types::Use;
-use values::{Integer, Refusal, Value};
+use values::{Integer, Refusal};
 
 // Where GT stands: its type, its length for each person and the place of its first element; all 0 where there is no GT. A bare 00 has its place.
-#[derive(Clone, Copy)]
+#[derive(Clone, Copy, Debug, PartialEq, Eq)]
 pub struct Gt {
     pub code: u8,
     pub len: u32,
     pub first: usize,
 }
 
-// A FORMAT field that is sound: its key, type and length for each person, and the places of its first element and after its last; or its refusal.
-#[derive(Clone, Copy)]
-pub enum FormatField {
-    Whole {
-        key: u32,
-        code: u8,
-        len: u32,
-        first: usize,
-        stop: usize,
-    },
-    Refused(Refusal),
-}
-
-// A genotype block that is sound, with its GT; or its refusal.
-#[derive(Clone, Copy)]
-pub enum Genotypes {
-    Sound(Gt),
-    Refused(Refusal),
-}
-
-// The refusal that a FORMAT field's answer says; number 0 where it says none.
-pub fn field_refusal(f: FormatField) -> Refusal
-    ensures { result ≡ refusal_in (field_says f) }
-{
-    match f {
-        FormatField::Whole {
-            key: _,
-            code: _,
-            len: _,
-            first: _,
-            stop: _,
-        } => Refusal {
-            number: 0,
-            place: 0,
-        },
-        FormatField::Refused(r) => r,
-    }
-}
-
-// The refusal that the answer of a genotype block says; number 0 where it says none.
-pub fn genotypes_refusal(g: Genotypes) -> Refusal
-    ensures { result ≡ refusal_in (genotypes_says g) }
-{
-    match g {
-        Genotypes::Sound(_) => Refusal {
-            number: 0,
-            place: 0,
-        },
-        Genotypes::Refused(r) => r,
-    }
+// A FORMAT field that is sound: its key, type and length for each person, and the places of its first element and after its last.
+#[derive(Clone, Copy, Debug, PartialEq, Eq)]
+pub struct FormatField {
+    pub key: u32,
+    pub code: u8,
+    pub len: u32,
+    pub first: usize,
+    pub stop: usize,
 }
 
 // The use of a FORMAT value by its key.
@@ -95,16 +52,13 @@ fn gt_after(key: u32, gt: u32, field: Gt, known: Gt) -> Gt
 const ROW: usize = 4;
 
 // Whether a row has a key. The sweep doesn't leave early, so that the compiler takes the row's keys together.
+#[tactic(auto, using(crate::proofs::Earlier::among_turn), unfolding(words::specs::Lists::among))]
 fn row_has(row: &[u32], key: u32) -> bool
     ensures { result ≡ among key row.now }
 {
     let mut met = false;
-    let mut i = 0;
-    while i < row.len() {
-        if row[i] == key {
-            met = true;
-        }
-        i += 1;
+    for k in row {
+        met |= *k == key;
     }
     met
 }
@@ -113,38 +67,28 @@ fn row_has(row: &[u32], key: u32) -> bool
 fn few_have(few: &[u32], key: u32) -> bool
     ensures { result ≡ among key few.now }
 {
-    let mut i = few.len();
-    while 0 < i {
-        i -= 1;
-        if few[i] == key {
-            return true;
-        }
-    }
-    false
+    few.iter().rev().any(|k| *k == key)
 }
 
 // Where those of so many keys begin that are compared one by one: with the last whole row, or with the first key where there is no row.
 fn near_from(count: usize) -> usize
     ensures { (result ≤ count) × (result % 4 ≡ 0) }
 {
-    if count < ROW {
-        return 0;
-    }
-    count - count % ROW - ROW
+    (count - count % ROW).saturating_sub(ROW)
 }
 
 // Whether a key is among the earlier ones. They are compared from the nearest backwards, since a repeat is nearly always the neighbour's: the last
 // whole row and what follows it one by one, then row by row.
+#[tactic(auto, using(crate::proofs::Earlier::among_split, crate::proofs::Earlier::among_cut, crate::proofs::Earlier::among_none))]
 pub fn is_repeated(earlier: &[u32], key: u32) -> bool
     ensures { result ≡ among key earlier.now }
 {
-    let mut i = near_from(earlier.len());
-    if few_have(&earlier[i..], key) {
+    let (rows, near) = earlier.split_at(near_from(earlier.len()));
+    if few_have(near, key) {
         return true;
     }
-    while ROW <= i {
-        i -= ROW;
-        if row_has(&earlier[i..i + ROW], key) {
+    for row in rows.rchunks_exact(ROW) {
+        if row_has(row, key) {
             return true;
         }
     }
@@ -152,80 +96,69 @@ pub fn is_repeated(earlier: &[u32], key: u32) -> bool
 }
 
 // The FORMAT field at a place, after earlier keys: its key, which is none of them, then its value by its use; or its refusal.
+#[tactic(auto, using(words::proofs::Places::drop_on), unfolding(crate::specs::Formats::format_field))]
 pub fn format_at(
     block: &[u8],
     at: usize,
     facts: Facts,
     alleles: u32,
     earlier: &[u32],
-) -> FormatField
+) -> Result<FormatField, Refusal>
     ensures value { result ≡ format_field facts.strings facts.people facts.gt alleles earlier.now at (drop at block.now) }
     ensures field_inside { FieldInside at (length block.now) result }
 {
-    let k = values::key_at(block, at, facts.strings);
-    let Integer::One { bits, next } = k else {
-        return FormatField::Refused(values::integer_refusal(k));
-    };
+    let Integer { bits, next } = values::key_at(block, at, facts.strings)?;
     if is_repeated(earlier, bits) {
-        return FormatField::Refused(Refusal {
+        return Err(Refusal {
             number: 11,
             place: at + 1,
         });
     }
-    let v = vectors::sound_value_at(block, next, role_of(bits, facts.gt), facts.people, alleles);
-    let Value::Present {
-        code,
-        len,
-        first,
-        stop,
-    } = v
-    else {
-        return FormatField::Refused(values::value_refusal(v));
-    };
-    FormatField::Whole {
+    let role = role_of(bits, facts.gt);
+    let v = vectors::sound_value_at(block, next, role, facts.people, alleles)?;
+    Ok(FormatField {
         key: bits,
-        code,
-        len,
-        first,
-        stop,
-    }
+        code: v.code,
+        len: v.len,
+        first: v.first,
+        stop: v.stop,
+    })
 }
 
 // So many FORMAT fields from a place on, to the end of the block: where GT stands; or the first refusal of a field, then 4.
-pub fn genotype_block(block: &[u8], from: usize, facts: Facts, alleles: u32, count: u8) -> Genotypes
+#[tactic(auto, using(crate::proofs::Turns::formats_turn, crate::proofs::Turns::formats_field, crate::proofs::Turns::formats_end, crate::proofs::Turns::keys_more))]
+pub fn genotype_block(
+    block: &[u8],
+    from: usize,
+    facts: Facts,
+    alleles: u32,
+    count: u8,
+) -> Result<Gt, Refusal>
     ensures { result ≡ formats facts.strings facts.people facts.gt alleles count [] no_gt from (drop from block.now) }
 {
     let mut keys = [0u32; 256];
-    let mut seen = 0;
-    let mut left = count;
     let mut at = from;
     let mut gt = Gt {
         code: 0,
         len: 0,
         first: 0,
     };
-    while 0 < left {
-        let f = format_at(block, at, facts, alleles, &keys[..seen]);
-        let FormatField::Whole {
+    for seen in 0..usize::from(count) {
+        let FormatField {
             key,
             code,
             len,
             first,
             stop,
-        } = f
-        else {
-            return Genotypes::Refused(field_refusal(f));
-        };
+        } = format_at(block, at, facts, alleles, &keys[..seen])?;
         gt = gt_after(key, facts.gt, Gt { code, len, first }, gt);
         keys[seen] = key;
-        seen += 1;
         at = stop;
-        left -= 1;
     }
     if block.len() <= at {
-        return Genotypes::Sound(gt);
+        return Ok(gt);
     }
-    Genotypes::Refused(Refusal {
+    Err(Refusal {
         number: 4,
         place: at,
     })

@@ -3,40 +3,44 @@ use mathlib.Core.Path.{◌≡◌, refl}
 use mathlib.Core.List.{List}
 use mathlib.Core.Bool.{Bool, true, false}
 use mathlib.Core.Option.{Option, none, some}
-use Prim.Native.Nat.{ℕ, ◌/◌, ◌%◌, ◌<◌, ◌≤◌}
-use native.Mathlib.Omega.{arith}
-use lib.Dec.{ltb}
+use Prim.Native.Nat.{ℕ, ◌/◌, ◌%◌, ◌<◌}
+use lib.Dec.{ltb, eqb}
 use lib.ListN.{length, take}
-use lib.Seq.{sets, sets-eq, take-append_seam}
-use borrow.Author.Tests.{lt-ltb, le-ltb, ltb-false, eq-eqb, ne_eqb}
+use borrow.Author.Tests.{lt-ltb}
 use Rattle.words.specs.Pick.{pick}
-use Rattle.hexadecimal.specs.Hexadecimal.{digits, eights, choice_of, choice_answered, stored}
-use Rattle.hexadecimal.specs.declared.ChoiceLine.TheVariants.{People, NoRoom}
+use Rattle.hexadecimal.specs.Hexadecimal.{digits, eights, choice_of, choice_answered, stored, counted}
+use Rattle.hexadecimal.specs.declared.LineError.TheVariants.{Bad, NoRoom}
+use Rattle.hexadecimal.proofs.Digits.{length_eights}
+use Rattle.hexadecimal.proofs.Frames.{told}
+use Rattle.std.specs.Prelude.{Ok, Err}
 
 pub choice_long : (l : List ℕ) → 240000 < length l → choice_of l ≡ none
 unfolding choice_of
 choice_long l h = rw (lt-ltb _ _ h)
 
-pub choice_part : (l : List ℕ) → length l ≤ 240000 → (length l % 8 ≡ 0 → ⊥) → choice_of l ≡ none
+pub choice_says : (l cs : List ℕ) → choice_of l ≡ some cs → cs ≡ eights (length l / 8) l
 unfolding choice_of
-choice_part l h o = rw (le-ltb _ _ h, ne_eqb _ _ o)
+choice_says l cs h = by-long (ltb 240000 (length l)) (eqb (length l % 8) 0) (digits l) h
+  where
+    by-long : (b o d : Bool) → pick b none (pick o (pick d (some (eights (length l / 8) l)) none) none) ≡ some cs → cs ≡ eights (length l / 8) l
+    by-long true o d h = cc
+    by-long false false d h = cc
+    by-long false true true h = cc
+    by-long false true false h = cc
 
-pub choice_other : (l : List ℕ) → length l ≤ 240000 → length l % 8 ≡ 0 → digits l ≡ false → choice_of l ≡ none
-unfolding choice_of
-choice_other l h o d = rw (le-ltb _ _ h, eq-eqb _ _ o, d)
-
-pub choice_good : (l : List ℕ) → length l ≤ 240000 → length l % 8 ≡ 0 → digits l ≡ true → choice_of l ≡ some (eights (length l / 8) l)
-unfolding choice_of
-choice_good l h o d = rw (le-ltb _ _ h, eq-eqb _ _ o, d)
+-- what is counted of it is what is answered to it
+pub choice_counted : (room : ℕ) (l : List ℕ) → counted 240000 8 room l ≡ choice_answered room (choice_of l)
+unfolding counted choice_of
+choice_counted room l = by-long (ltb 240000 (length l)) (eqb (length l % 8) 0) (digits l)
+  where
+    by-long : (b o d : Bool)
+        → pick b (Err Bad) (pick o (pick d (pick (ltb room (length l / 8)) (Err NoRoom) (Ok (length l / 8))) (Err Bad)) (Err Bad))
+        ≡ choice_answered room (pick b none (pick o (pick d (some (eights (length l / 8) l)) none) none))
+    by-long true o d = refl
+    by-long false false d = refl
+    by-long false true true = rw length_eights
+    by-long false true false = refl
 
 -- where n people are told, the first n of the buffer are the line's
-pub chosen : (buf : List ℕ) (f : Option (List ℕ)) (n : ℕ) → choice_answered (length buf) f ≡ People n → f ≡ some (take n (stored buf f))
-chosen buf none n h = cc
-chosen buf (some cs) n h = by-room (ltb (length buf) (length cs)) refl h
-  where
-    by-room : (b : Bool) → ltb (length buf) (length cs) ≡ b → pick b NoRoom (People (length cs)) ≡ People n
-        → some cs ≡ some (take n (pick (ltb (length buf) (length cs)) buf (sets buf 0 cs)))
-    by-room true e h = cc
-    by-room false e h =
-        let q : length cs ≡ n = cc in
-        rw (e, ← q, sets-eq cs buf 0 (omega (arith, ltb-false (length buf) (length cs) e)), take-append_seam)
+pub chosen : (buf : List ℕ) (f : Option (List ℕ)) (n : ℕ) → choice_answered (length buf) f ≡ Ok n → f ≡ some (take n (stored buf f))
+chosen = told

@@ -9,7 +9,7 @@ use lib.ListN.{length, take}
 use lib.Seq.{take_all, length-take-le}
 use borrow.Author.Tests.{ltb-true, ltb-false, ne_eqb}
 use Rattle.hexadecimal.specs.Hexadecimal.{facts_of, choice_of, frame_of}
-use Rattle.hexadecimal.specs.declared.FactsLine.TheVariants.{NoFacts}
+use Rattle.std.specs.Prelude.{None}
 use Rattle.hexadecimal.proofs.Choices.{choice_long}
 use Rattle.hexadecimal.proofs.Frames.{frame_long}
 
@@ -25,7 +25,7 @@ cut f long most n l over h = by_length (ltb n (length l)) refl
         over (take n l) (omega (arith, whole)) ∙ sym (over l (omega arith))
     by_length false e = ap f (take_all n l (ltb-false _ _ e))
 
-facts_long : (l : List ℕ) → 32 < length l → facts_of l ≡ NoFacts
+facts_long : (l : List ℕ) → 32 < length l → facts_of l ≡ None
 unfolding facts_of
 facts_long l h = rw (ne_eqb (length l) 32 (λ (e : length l ≡ 32). omega arith))
 

@@ -2,14 +2,16 @@
 use mathlib.Core.Path.{◌≡◌, refl}
 use mathlib.Core.List.{List, [], ◌∷◌}
 use mathlib.Core.Bool.{Bool, true, false}
-use Prim.Native.Nat.{ℕ, zero, suc, ◌+◌, ◌-◌, ◌*◌, ◌/◌, ◌<◌}
+use Prim.Native.Nat.{ℕ, zero, suc, ◌+◌, ◌-◌, ◌*◌, ◌/◌, ◌<◌, ◌≤◌}
 use native.Mathlib.Nat.{add-zero, add_assoc}
 use native.Mathlib.Numerals.{add-one, add-two, sub-one}
 use native.Mathlib.Omega.{arith}
-use lib.Dec.{leb}
-use lib.ListN.{length, get_or, take, drop, length-drop}
+use lib.Dec.{leb, ltb}
+use lib.ListN.{length, get_or, take, drop, length-drop, drop_of_length-le}
 use lib.Seq.{drop-cons, drop-drop, get_or-drop}
 use borrow.Author.Tests.{leb-false}
+use Rattle.std.specs.List.{list_all}
+use Rattle.std.proofs.lemmas.Bool.Decides.{nat_tests}
 use Rattle.words.specs.Pick.{pick}
 use Rattle.hexadecimal.specs.Hexadecimal.{digit, digits, byte, line_bytes, big, eights}
 
@@ -24,10 +26,19 @@ digit_below [] i h l = absurd (omega arith)
 digit_below (c ∷ cs) zero h l = leb-false 16 (digit c) (passed (leb 16 (digit c)) _ h).0
 digit_below (c ∷ cs) (suc i) h l = digit_below cs i (passed (leb 16 (digit c)) _ h).1 (omega arith)
 
-pub digits_turn : (s : List ℕ) (i : ℕ) → i < length s
-    → digits (drop i s) ≡ pick (leb 16 (digit (get_or s i 0))) false (digits (drop (i + 1) s))
+-- the whole line by one test of each character
+pub digits_all : (l : List ℕ) → digits l ≡ list_all (λ c. ltb (digit c) 16) l
 unfolding digits
-digits_turn s i h = rw (drop-cons s i 0 h, add-one i)
+digits_all [] = refl
+digits_all (c ∷ cs) = let on = digits_all cs in grind (arith, nat_tests)
+
+pub paired_end : (s : List ℕ) (i : ℕ) → length s ≤ i → line_bytes (drop i s) ≡ []
+unfolding line_bytes
+paired_end s i h = rw (drop_of_length-le s {i = i} h)
+
+pub eights_end : (n : ℕ) (l : List ℕ) → n ≡ 0 → eights n l ≡ []
+unfolding eights
+eights_end n l h = rw h
 
 pub paired_turn : (s : List ℕ) (i : ℕ) → i + 1 < length s
     → line_bytes (drop i s) ≡ byte (get_or s i 0) (get_or s (i + 1) 0) ∷ line_bytes (drop (i + 2) s)
@@ -44,6 +55,12 @@ pub eights_turn : (n at : ℕ) (s : List ℕ) → 0 < n → eights n (drop at s)
 unfolding eights
 eights_turn zero at s h = absurd (omega arith)
 eights_turn (suc n) at s h = rw (sub-one, drop-drop 8 at s)
+
+pub eights_next : (n i : ℕ) (s : List ℕ) → i < n → eights (n - i) (drop (8 * i) s) ≡ big (take 8 (drop (8 * i) s)) ∷ eights (n - (i + 1)) (drop (8 * (i + 1)) s)
+eights_next n i s h =
+    let m : n - (i + 1) ≡ n - i - 1 = omega arith in
+    let e : 8 * (i + 1) ≡ 8 * i + 8 = omega arith in
+    rw (m, e, eights_turn (n - i) (8 * i) s (omega arith))
 
 pub length_eights : (n : ℕ) (l : List ℕ) → length (eights n l) ≡ n
 unfolding eights

@@ -4,7 +4,7 @@ use mathlib.Core.List.{[], ◌∷◌, ◌++◌}
 use mathlib.Core.Option.{none, some}
 use lib.ListN.{replicate}
 use Rattle.hexadecimal.specs.Hexadecimal.{digit, digits, byte, line_bytes, big, facts_of, eights, choice_of, frame_of}
-use Rattle.hexadecimal.specs.declared.FactsLine.TheVariants.{Facts as AreFacts, NoFacts}
+use Rattle.std.specs.Prelude.{Some, None}
 
 pub record Worked : Type 0 where
   -- `0aF9`
@@ -17,10 +17,10 @@ pub record Worked : Type 0 where
   -- 7 zeros and `5`, 6 zeros and `1F`, `FFFFFFFF`, 8 zeros
   pub facts
       : facts_of (replicate 7 0x30 ++ 0x35 ∷ replicate 6 0x30 ++ 0x31 ∷ 0x46 ∷ replicate 8 0x46 ++ replicate 8 0x30)
-      ≡ AreFacts (record { strings = 5; contigs = 31; people = 0xFFFFFFFF; gt = 0 })
-  pub short : facts_of (replicate 31 0x30) ≡ NoFacts
+      ≡ Some (record { strings = 5; contigs = 31; people = 0xFFFFFFFF; gt = 0 })
+  pub short : facts_of (replicate 31 0x30) ≡ None
   -- 31 zeros and `g`
-  pub another : facts_of (replicate 31 0x30 ++ 0x67 ∷ []) ≡ NoFacts
+  pub another : facts_of (replicate 31 0x30 ++ 0x67 ∷ []) ≡ None
   -- 7 zeros and `1`, 6 zeros and `1f`
   pub two_people : choice_of (replicate 7 0x30 ++ 0x31 ∷ replicate 6 0x30 ++ 0x31 ∷ 0x66 ∷ []) ≡ some (1 ∷ 31 ∷ [])
   pub nobody : choice_of [] ≡ some []

@@ -10,7 +10,8 @@ use lib.ListN.{length}
 use borrow.Author.Tests.{le-ltb, ltb-false}
 use Rattle.words.specs.Pick.{pick}
 use Rattle.hexadecimal.specs.Hexadecimal.{digits, line_bytes, frame_of, answered}
-use Rattle.hexadecimal.specs.declared.Frame.TheVariants.{Bytes, NoRoom}
+use Rattle.hexadecimal.specs.declared.LineError.TheVariants.{NoRoom}
+use Rattle.std.specs.Prelude.{Ok, Err}
 use Rattle.hexadecimal.proofs.Digits.{length_line_bytes}
 
 pub frame_most : (l bs : List ℕ) → frame_of l ≡ some bs → length bs ≤ 30000
@@ -34,14 +35,14 @@ frame_most l bs h = by-long (ltb 60000 (length l)) refl h
         omega (arith, q, length_line_bytes l, ltb-false 60000 (length l) k)
 
 -- a buffer of 30,000 bytes is never too short
-pub frame_room_lem : (room : ℕ) (l : List ℕ) → 30000 ≤ room → answered room (frame_of l) ≡ NoRoom → ⊥
+pub frame_room_lem : (room : ℕ) (l : List ℕ) → 30000 ≤ room → answered room (frame_of l) ≡ Err NoRoom → ⊥
 frame_room_lem room l r h = by-frame (frame_of l) refl h
   where
-    by-frame : (o : Option (List ℕ)) → frame_of l ≡ o → answered room o ≡ NoRoom → ⊥
+    by-frame : (o : Option (List ℕ)) → frame_of l ≡ o → answered room o ≡ Err NoRoom → ⊥
     by-frame none e k = let z : ◌≡◌ {A = ℕ} 0 1 = cc in omega arith
     by-frame (some bs) e k =
         let m = frame_most l bs e in
         let q : ltb room (length bs) ≡ false = le-ltb room (length bs) (omega arith) in
-        let b : Bytes (length bs) ≡ NoRoom = rw q at k in
+        let b : Ok (length bs) ≡ Err NoRoom = rw q at k in
         let z : ◌≡◌ {A = ℕ} 0 1 = cc in
         omega arith

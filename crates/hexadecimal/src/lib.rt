@@ -2,12 +2,12 @@
 // Rests on words, for the way in which definitions choose.
 #![tactic(auto)]
 
-ghost use Rattle.std.specs.Prelude.{◌≡◌, true, ◌+◌, ◌*◌, ◌<◌, ◌≤◌, drop, get_or, length, take};
-ghost use Rattle.std.proofs.lemmas.List.Edits.{sets};
-ghost use Rattle.hexadecimal.specs.Hexadecimal.{digit, values_from, digits, byte, line_bytes, big, facts_of, eights, choice_of, choice_answered, PeopleInside, frame_of, answered, BytesInside, stored};
+ghost use Rattle.std.specs.Prelude.{◌≡◌, true, ◌+◌, ◌*◌, ◌<◌, ◌≤◌, drop, get_or, length, take, IfOk};
+ghost use Rattle.hexadecimal.specs.Hexadecimal.{digit, digits, byte, line_bytes, big, facts_of, eights, choice_of, choice_answered, PeopleInside, frame_of, answered, BytesInside, stored, counted};
 
 mod characters; // the value of each character as a digit
 
+use characters::Values;
 use facts::Facts;
 
 // The most digits that a record's line may have, and a choice's: as many people as such a record has bytes.
@@ -15,172 +15,127 @@ const MOST_DIGITS: usize = 60000;
 
 const MOST_CHOICE_DIGITS: usize = 240000;
 
-// The first line: the header's facts, or none where it is not 32 digits.
-#[derive(Clone, Copy)]
-pub enum FactsLine {
-    Facts(Facts),
-    NoFacts,
-}
-
-// A choice's line: so many people stored, a bad line, or a buffer that is too short.
-#[derive(Clone, Copy)]
-pub enum ChoiceLine {
-    People(usize),
+// A line that is not what it has to be, or a buffer that is too short for it.
+#[derive(Clone, Copy, Debug, PartialEq, Eq)]
+pub enum LineError {
     Bad,
     NoRoom,
-}
-
-// A record's line: so many bytes stored, a bad line, or a buffer that is too short.
-#[derive(Clone, Copy)]
-pub enum Frame {
-    Bytes(usize),
-    Bad,
-    NoRoom,
-}
-
-// A byte as a 32-bit number: with it a number of four bytes asks for no bound of its own.
-fn wide(x: u8) -> u32
-    ensures { (result ≡ x) × (result < 256) }
-{
-    x as u32
-}
-
-// The value of a character as a digit. The table is lent, since each look at the constant would build it anew.
-fn digit_of(table: &[u8; 256], c: u8) -> u8
-    requires { table.now ≡ values_from 0 256 }
-    ensures { result ≡ digit c }
-{
-    table[c as usize]
 }
 
 // Whether each character of a line is a digit.
-fn all_digits(table: &[u8; 256], line: &[u8]) -> bool
-    requires { table.now ≡ values_from 0 256 }
+fn all_digits(values: &Values, line: &[u8]) -> bool
     ensures { result ≡ digits line.now }
 {
-    let mut i = 0;
-    while i < line.len() {
-        if 16 <= digit_of(table, line[i]) {
-            return false;
-        }
-        i += 1;
-    }
-    true
+    line.iter().all(|c| values.digit(*c) < 16)
 }
 
 // The byte of the two digits at a place.
-fn byte_at(table: &[u8; 256], line: &[u8], at: usize) -> u8
-    requires { (table.now ≡ values_from 0 256) × (at + 1 < length line.now) × (digits line.now ≡ true) }
+#[tactic(auto, using(crate::proofs::Digits::digit_below), unfolding(crate::specs::Hexadecimal::byte))]
+fn byte_at(values: &Values, line: &[u8], at: usize) -> u8
+    requires { (at + 1 < length line.now) × (digits line.now ≡ true) }
     ensures { result ≡ byte (get_or line.now at 0) (get_or line.now (at + 1) 0) }
 {
-    digit_of(table, line[at]) * 16 + digit_of(table, line[at + 1])
+    values.digit(line[at]) * 16 + values.digit(line[at + 1])
 }
 
 // The number of the eight digits at a place.
-fn number_at(table: &[u8; 256], line: &[u8], at: usize) -> u32
-    requires { (table.now ≡ values_from 0 256) × (at + 7 < length line.now) × (digits line.now ≡ true) }
+#[tactic(auto, using(crate::proofs::Digits::eight_at))]
+fn number_at(values: &Values, line: &[u8], at: usize) -> u32
+    requires { (at + 7 < length line.now) × (digits line.now ≡ true) }
     ensures { result ≡ big (take 8 (drop at line.now)) }
 {
-    let a = wide(byte_at(table, line, at));
-    let b = wide(byte_at(table, line, at + 2));
-    let c = wide(byte_at(table, line, at + 4));
-    let d = wide(byte_at(table, line, at + 6));
-    a * 16777216 + b * 65536 + c * 256 + d
+    let a = byte_at(values, line, at);
+    let b = byte_at(values, line, at + 2);
+    let c = byte_at(values, line, at + 4);
+    let d = byte_at(values, line, at + 6);
+    u32::from_be_bytes([a, b, c, d])
 }
 
 // The facts that the first line gives: its four numbers, or none where it is not 32 digits.
-pub fn facts_of(line: &[u8]) -> FactsLine
+#[tactic(auto, using(std::proofs::lemmas::Bool::Decides::nat_tests), unfolding(crate::specs::Hexadecimal::facts_of))]
+pub fn facts_of(line: &[u8]) -> Option<Facts>
     ensures { result ≡ facts_of line.now }
 {
-    if line.len() == 32 {
-        let table = characters::table();
-        if all_digits(&table, line) {
-            return FactsLine::Facts(Facts {
-                strings: number_at(&table, line, 0),
-                contigs: number_at(&table, line, 8),
-                people: number_at(&table, line, 16),
-                gt: number_at(&table, line, 24),
-            });
-        }
-        return FactsLine::NoFacts;
+    if line.len() != 32 {
+        return None;
     }
-    FactsLine::NoFacts
+    let values = Values::new();
+    if !all_digits(&values, line) {
+        return None;
+    }
+    Some(Facts {
+        strings: number_at(&values, line, 0),
+        contigs: number_at(&values, line, 8),
+        people: number_at(&values, line, 16),
+        gt: number_at(&values, line, 24),
+    })
 }
 
-// Stores the n people of a line of digits from the buffer's start on.
-fn store_people(table: &[u8; 256], line: &[u8], n: usize, choice: &mut [u32])
-    requires { (table.now ≡ values_from 0 256) × (length line.now ≡ n * 8) × (n ≤ length choice.old) × (digits line.now ≡ true) }
-    ensures { choice.new ≡ sets choice.old 0 (eights n line.now) }
+// How many values a line of at most `most` digits has, `width` digits each, where a buffer has room for them: a bad line is told before a short buffer.
+#[tactic(auto, using(std::proofs::lemmas::Bool::Decides::nat_tests), unfolding(crate::specs::Hexadecimal::counted))]
+fn values_in(
+    values: &Values,
+    line: &[u8],
+    most: usize,
+    width: usize,
+    room: usize,
+) -> Result<usize, LineError>
+    requires { 0 < width }
+    ensures value { result ≡ counted most width room line.now }
+    ensures sound { IfOk result (λ n. (n ≤ room) × (length line.now ≡ n * width) × (digits line.now ≡ true)) }
 {
-    let mut left = n;
-    let mut at = 0;
-    let mut o = 0;
-    while 0 < left {
-        choice[o] = number_at(table, line, at);
-        o += 1;
-        at += 8;
-        left -= 1;
+    if most < line.len() || line.len() % width != 0 || !all_digits(values, line) {
+        return Err(LineError::Bad);
+    }
+    let n = line.len() / width;
+    if room < n {
+        return Err(LineError::NoRoom);
+    }
+    Ok(n)
+}
+
+// Fills a part with the people of a line of digits.
+#[tactic(auto, using(words::proofs::Stores::fills, crate::proofs::Digits::eights_next, crate::proofs::Digits::eights_end))]
+fn store_people(values: &Values, line: &[u8], part: &mut [u32])
+    requires { (length line.now ≡ length part.old * 8) × (digits line.now ≡ true) }
+    ensures { part.new ≡ eights (length part.old) line.now }
+{
+    for (i, person) in part.iter_mut().enumerate() {
+        *person = number_at(values, line, 8 * i);
     }
 }
 
-// A choice's line: its people stored from the buffer's start on; a bad line is told before a short buffer, and neither writes.
-pub fn read_choice(line: &[u8], choice: &mut [u32]) -> ChoiceLine
+// A choice's line: its people stored from the buffer's start on, and how many they are; a bad line is told before a short buffer, and neither writes.
+pub fn read_choice(line: &[u8], choice: &mut [u32]) -> Result<usize, LineError>
     ensures told { result ≡ choice_answered (length choice.old) (choice_of line.now) }
     ensures inside { PeopleInside (length choice.old) result }
     ensures written { choice.new ≡ stored choice.old (choice_of line.now) }
 {
-    if MOST_CHOICE_DIGITS < line.len() {
-        return ChoiceLine::Bad;
-    }
-    if line.len() % 8 == 0 {
-        let table = characters::table();
-        if all_digits(&table, line) {
-            let n = line.len() / 8;
-            if choice.len() < n {
-                return ChoiceLine::NoRoom;
-            }
-            store_people(&table, line, n, choice);
-            return ChoiceLine::People(n);
-        }
-        return ChoiceLine::Bad;
-    }
-    ChoiceLine::Bad
+    let values = Values::new();
+    let n = values_in(&values, line, MOST_CHOICE_DIGITS, 8, choice.len())?;
+    store_people(&values, line, &mut choice[..n]);
+    Ok(n)
 }
 
-// Stores the n bytes of a line of digits from the buffer's start on.
-fn store(table: &[u8; 256], line: &[u8], n: usize, buf: &mut [u8])
-    requires { (table.now ≡ values_from 0 256) × (length line.now ≡ n * 2) × (n ≤ length buf.old) × (digits line.now ≡ true) }
-    ensures { buf.new ≡ sets buf.old 0 (line_bytes line.now) }
+// Fills a part with the bytes of a line of digits.
+#[tactic(auto, using(words::proofs::Stores::fills, crate::proofs::Digits::paired_turn, crate::proofs::Digits::paired_end))]
+fn store(values: &Values, line: &[u8], part: &mut [u8])
+    requires { (length line.now ≡ length part.old * 2) × (digits line.now ≡ true) }
+    ensures { part.new ≡ line_bytes line.now }
 {
-    let mut i = 0;
-    let mut o = 0;
-    while i < line.len() {
-        buf[o] = byte_at(table, line, i);
-        o += 1;
-        i += 2;
+    for (i, byte) in part.iter_mut().enumerate() {
+        *byte = byte_at(values, line, 2 * i);
     }
 }
 
-// A record's line: its bytes stored from the buffer's start on; a bad line is told before a short buffer, and neither writes.
-pub fn decode(line: &[u8], buf: &mut [u8]) -> Frame
+// A record's line: its bytes stored from the buffer's start on, and how many they are; a bad line is told before a short buffer, and neither writes.
+pub fn decode(line: &[u8], buf: &mut [u8]) -> Result<usize, LineError>
     ensures told { result ≡ answered (length buf.old) (frame_of line.now) }
     ensures inside { BytesInside (length buf.old) result }
     ensures written { buf.new ≡ stored buf.old (frame_of line.now) }
 {
-    if MOST_DIGITS < line.len() {
-        return Frame::Bad;
-    }
-    if line.len() % 2 == 1 {
-        return Frame::Bad;
-    }
-    let table = characters::table();
-    if all_digits(&table, line) {
-        let n = line.len() / 2;
-        if buf.len() < n {
-            return Frame::NoRoom;
-        }
-        store(&table, line, n, buf);
-        return Frame::Bytes(n);
-    }
-    Frame::Bad
+    let values = Values::new();
+    let n = values_in(&values, line, MOST_DIGITS, 2, buf.len())?;
+    store(&values, line, &mut buf[..n]);
+    Ok(n)
 }

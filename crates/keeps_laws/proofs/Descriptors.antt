@@ -15,11 +15,8 @@ use Rattle.types.specs.Elements.{shown, narrowest}
 use Rattle.types.specs.declared.Use.{Use}
 use Rattle.types.specs.declared.Use.TheVariants.{Id, Allele, Filter, Integer as IntegerUse, Info, Format, Gt}
 use Rattle.types.proofs.Table.{whole, rows_rule}
-use Rattle.values.specs.Answers.{no_integer, one, no_descriptor, typed}
+use Rattle.values.specs.Answers.{no_integer, one, no_descriptor, typed, Answer}
 use Rattle.values.specs.Values.{integer, long_enough, true_length, in_dictionary, keyed, with_length, may_stand, described}
-use Rattle.values.specs.declared.Integer.{Integer}
-use Rattle.values.specs.declared.Integer.TheVariants.{One, Refused as NoInteger}
-use Rattle.values.specs.declared.Descriptor.TheVariants.{Typed}
 use Rattle.values.proofs.Stand.{may_stand_zero}
 use Rattle.encode.specs.Encode.{integer_bytes, descriptor_bytes}
 use Rattle.encode.proofs.Lengths.{length_integer_bytes, length_descriptor_bytes}
@@ -28,7 +25,10 @@ use Rattle.fetch.proofs.Inside.{integer_inside}
 use Rattle.fetch_laws.proofs.FormatFields.{keyed_integer}
 use Rattle.build_laws.proofs.Widths.{narrowest_types}
 use Rattle.keeps_laws.proofs.Elements.{Code, bare, wide, free, code, narrowest_shown, width_under}
+use Rattle.std.specs.Prelude.{Err, Ok}
+use Rattle.values.specs.declared.Integer.{Integer}
 use Rattle.keeps_laws.proofs.Vectors.{number_bound}
+use Rattle.values.proofs.Held.{same_one, same_typed}
 
 -- keys and true lengths are integers
 pub whole_types : (t : ℕ) → whole t ≡ true → (0 < t) × (t ≤ 3)
@@ -43,7 +43,7 @@ integer_types : (t : ℕ) → t < 16 → allowed (row_of t) IntegerUse ≡ true 
 integer_types t h e = whole_types t (sym (rows_rule t h).integer ∙ e)
 
 -- an integer that is not negative is written in no more bytes than it stands in
-integer_long : (at : ℕ) (l : List ℕ) (x next : ℕ) → integer at l ≡ One x next → Bytes l → x < 0x80000000
+integer_long : (at : ℕ) (l : List ℕ) (x next : ℕ) → integer at l ≡ one x next → Bytes l → x < 0x80000000
     → at + length (integer_bytes x) ≤ next
 unfolding integer
 integer_long at [] x next h b k = let z : ◌≡◌ {A = ℕ} 0 1 = cc in absurd (omega arith)
@@ -58,15 +58,15 @@ integer_long at (d ∷ rest) x next h b k =
 
     by_tests : (a c e : Bool) → allowed (row_of t) IntegerUse ≡ a → ltb (length rest) w ≡ e
         → pick a (pick c (pick e (no_integer 3 (at + 1 + length rest)) (one (shown t (number w rest)) (at + 1 + w))) (no_integer 6 at)) (no_integer 6 at)
-        ≡ One x next
+        ≡ one x next
         → at + length (integer_bytes x) ≤ next
     by_tests false c e p q i = let z : ◌≡◌ {A = ℕ} 0 1 = cc in absurd (omega arith)
     by_tests true false e p q i = let z : ◌≡◌ {A = ℕ} 0 1 = cc in absurd (omega arith)
     by_tests true true true p q i = let z : ◌≡◌ {A = ℕ} 0 1 = cc in absurd (omega arith)
     by_tests true true false p q i =
         let y = number w rest in
-        let same : shown t y ≡ x = cc in
-        let ends : at + 1 + w ≡ next = cc in
+        let same = (same_one i).0 in
+        let ends = (same_one i).1 in
         let types = integer_types t (omega arith) p in
         let bound = number_bound w rest b.1 (ltb-false (length rest) w q) in
         let narrow : narrowest x ≤ t = rw same at (narrowest_shown t types.0 types.1 y bound (rw same k)) in
@@ -82,24 +82,24 @@ not_outside strings x h = by-test (leb 0x80000000 x) refl h
     by-test true e z = let y : ◌≡◌ {A = ℕ} 0 1 = cc in absurd (omega arith)
     by-test false e z = leb-false 0x80000000 x e
 
-keyed_offset : (strings at : ℕ) (l : List ℕ) (x next : ℕ) → keyed strings at l ≡ One x next → outside strings x ≡ false
+keyed_offset : (strings at : ℕ) (l : List ℕ) (x next : ℕ) → keyed strings at l ≡ one x next → outside strings x ≡ false
 unfolding keyed
 keyed_offset strings at l x next h = by-integer (integer at l) h
   where
-    by-test : (y q : ℕ) (a : Bool) → outside strings y ≡ a → pick a (no_integer 8 (at + 1)) (one y q) ≡ One x next → outside strings x ≡ false
+    by-test : (y q : ℕ) (a : Bool) → outside strings y ≡ a → pick a (no_integer 8 (at + 1)) (one y q) ≡ one x next → outside strings x ≡ false
     by-test y q true p e = cc
-    by-test y q false p e = let same : y ≡ x = cc in rw same at p
+    by-test y q false p e = rw (same_one e).0 at p
 
-    by-integer : (i : Integer) → in_dictionary strings at i ≡ One x next → outside strings x ≡ false
-    by-integer (NoInteger r) e = cc
-    by-integer (One y q) e = by-test y q (outside strings y) refl e
+    by-integer : (i : Answer Integer) → in_dictionary strings at i ≡ one x next → outside strings x ≡ false
+    by-integer (Err r) e = cc
+    by-integer (Ok i) e = by-test i.bits i.next (outside strings i.bits) refl e
 
 pub record KeyKeeps (strings at : ℕ) (l : List ℕ) (x next : ℕ) : Type 0 where
   pub bits : x < 4294967296
   pub inside : key_number strings x ≡ 0
   pub long : length (integer_bytes x) + length (drop (next - at) l) ≤ length l
 
-pub key_keeps : (strings at : ℕ) (l : List ℕ) (x next : ℕ) → keyed strings at l ≡ One x next → Bytes l → KeyKeeps strings at l x next
+pub key_keeps : (strings at : ℕ) (l : List ℕ) (x next : ℕ) → keyed strings at l ≡ one x next → Bytes l → KeyKeeps strings at l x next
 unfolding key_number
 key_keeps strings at l x next h b =
     let o = keyed_offset strings at l x next h in
@@ -111,24 +111,23 @@ key_keeps strings at l x next h b =
 
 -- a true length
 record Long (at : ℕ) (l : List ℕ) (x next : ℕ) : Type 0 where
-  there : integer at l ≡ One x next
+  there : integer at l ≡ one x next
   bits : x < 0x80000000
 
-long_enough_lem : (at : ℕ) (l : List ℕ) (x next : ℕ) → true_length at l ≡ One x next → Long at l x next
+long_enough_lem : (at : ℕ) (l : List ℕ) (x next : ℕ) → true_length at l ≡ one x next → Long at l x next
 unfolding true_length
 long_enough_lem at l x next h = by-integer (integer at l) refl h
   where
-    by_tests : (y q : ℕ) (a b : Bool) → integer at l ≡ One y q → leb 0x80000000 y ≡ b
-        → pick a (no_integer 7 at) (pick b (no_integer 7 at) (one y q)) ≡ One x next → Long at l x next
+    by_tests : (y q : ℕ) (a b : Bool) → integer at l ≡ one y q → leb 0x80000000 y ≡ b
+        → pick a (no_integer 7 at) (pick b (no_integer 7 at) (one y q)) ≡ one x next → Long at l x next
     by_tests y q true b i p e = let z : ◌≡◌ {A = ℕ} 0 1 = cc in absurd (omega arith)
     by_tests y q false true i p e = let z : ◌≡◌ {A = ℕ} 0 1 = cc in absurd (omega arith)
     by_tests y q false false i p e =
-        let same : y ≡ x = cc in
-        record { there = i ∙ e; bits = rw same at (leb-false 0x80000000 y p) }
+        record { there = i ∙ e; bits = rw (same_one e).0 at (leb-false 0x80000000 y p) }
 
-    by-integer : (i : Integer) → integer at l ≡ i → long_enough at i ≡ One x next → Long at l x next
-    by-integer (NoInteger r) p e = let z : ◌≡◌ {A = ℕ} 0 1 = cc in absurd (omega arith)
-    by-integer (One y q) p e = by_tests y q (ltb y 15) (leb 0x80000000 y) p refl e
+    by-integer : (i : Answer Integer) → integer at l ≡ i → long_enough at i ≡ one x next → Long at l x next
+    by-integer (Err r) p e = let z : ◌≡◌ {A = ℕ} 0 1 = cc in absurd (omega arith)
+    by-integer (Ok i) p e = by_tests i.bits i.next (ltb i.bits 15) (leb 0x80000000 i.bits) p refl e
 
 -- a descriptor is written in no more bytes than it stands in, and its type has a width, or it is a bare 00
 descriptor_short : (u n : ℕ) → length (descriptor_bytes u n) ≤ 1 + length (integer_bytes n)
@@ -175,7 +174,7 @@ pub record Described (role : Use) (at : ℕ) (t n first : ℕ) : Type 0 where
   pub there : Stands t n
   pub long : (u : ℕ) → at + length (descriptor_bytes u n) ≤ first
 
-pub described_long : (role : Use) (at : ℕ) (l : List ℕ) (t n first : ℕ) → described role at l ≡ Typed t n first → Bytes l
+pub described_long : (role : Use) (at : ℕ) (l : List ℕ) (t n first : ℕ) → described role at l ≡ typed t n first → Bytes l
     → Described role at t n first
 unfolding described
 described_long role at [] t n first h b = let z : ◌≡◌ {A = ℕ} 0 1 = cc in absurd (omega arith)
@@ -185,26 +184,28 @@ described_long role at (d ∷ rest) t n first h b =
     one_byte : (u m : ℕ) → ltb m 15 ≡ true → length (descriptor_bytes u m) ≡ 1
     one_byte u m e = rw (length_descriptor_bytes u m, e)
 
-    by_tests : (a c : Bool) (i : Integer) → may_stand role (d % 16) (d / 16) ≡ a → ltb (d / 16) 15 ≡ c → true_length (at + 1) rest ≡ i
-        → pick a (pick c (typed (d % 16) (d / 16) (at + 1)) (with_length (d % 16) i)) (no_descriptor 6 at) ≡ Typed t n first → Described role at t n first
+    by_tests : (a c : Bool) (i : Answer Integer) → may_stand role (d % 16) (d / 16) ≡ a → ltb (d / 16) 15 ≡ c → true_length (at + 1) rest ≡ i
+        → pick a (pick c (typed (d % 16) (d / 16) (at + 1)) (with_length (d % 16) i)) (no_descriptor 6 at) ≡ typed t n first → Described role at t n first
     by_tests false c i p q s e = let z : ◌≡◌ {A = ℕ} 0 1 = cc in absurd (omega arith)
     by_tests true true i p q s e =
-        let type : d % 16 ≡ t = cc in
-        let len : d / 16 ≡ n = cc in
-        let next : at + 1 ≡ first = cc in
+        let k = same_typed e in
+        let type = k.0 in
+        let len = k.1 in
+        let next = k.2 in
         record {
           code = omega arith;
           fits = rw type at (stands_use role (d % 16) (d / 16) p);
           there = rw (type, len) at (stands role (d % 16) (d / 16) p);
           long = λ u. rw (one_byte u n (rw len at q)) (omega arith);
         }
-    by_tests true false (NoInteger r) p q s e = let z : ◌≡◌ {A = ℕ} 0 1 = cc in absurd (omega arith)
-    by_tests true false (One x next) p q s e =
-        let type : d % 16 ≡ t = cc in
-        let len : x ≡ n = cc in
-        let ends : next ≡ first = cc in
-        let k = long_enough_lem (at + 1) rest x next s in
-        let size = rw (len, ends) at (integer_long (at + 1) rest x next k.there b.1 k.bits) in
+    by_tests true false (Err r) p q s e = let z : ◌≡◌ {A = ℕ} 0 1 = cc in absurd (omega arith)
+    by_tests true false (Ok i) p q s e =
+        let same = same_typed e in
+        let type = same.0 in
+        let len = same.1 in
+        let ends = same.2 in
+        let k = long_enough_lem (at + 1) rest i.bits i.next s in
+        let size = rw (len, ends) at (integer_long (at + 1) rest i.bits i.next k.there b.1 k.bits) in
         record {
           code = omega arith;
           fits = rw type at (stands_use role (d % 16) (d / 16) p);

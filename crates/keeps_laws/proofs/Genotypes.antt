@@ -9,11 +9,9 @@ use lib.Dec.{eqb}
 use lib.ListN.{length, drop, replicate, length-append}
 use Rattle.words.specs.Words.{Bytes}
 use Rattle.values.specs.Values.{present}
-use Rattle.values.specs.declared.Value.TheVariants.{Present}
 use Rattle.facts.specs.declared.Facts.{Facts}
 use Rattle.genotypes.specs.Formats.{formats, role_of}
 use Rattle.genotypes.specs.declared.Gt.{Gt}
-use Rattle.genotypes.specs.declared.Genotypes.TheVariants.{Sound}
 use Rattle.encode.specs.Encode.{integer_bytes}
 use Rattle.shown.specs.Shown.{Field, kind_of, is_integers}
 use Rattle.shown.specs.Values.{given_bytes, pair_bytes}
@@ -26,10 +24,12 @@ use Rattle.build_laws.specs.Records.{KeepsField, KeepsFields}
 use Rattle.shown.specs.Records.{joined, format_bytes}
 use Rattle.choose_laws.proofs.Stored.{Bytes_drop}
 use Rattle.keeps_laws.proofs.Descriptors.{key_keeps}
+use Rattle.std.specs.Prelude.{Ok}
+use Rattle.values.specs.Answers.{whole}
 use Rattle.keeps_laws.proofs.Values.{elements_from, value_keeps, gt_types}
 
 -- GT is integers
-role_types : (people key gt at : ℕ) (l : List ℕ) (t n first stop : ℕ) → present people (role_of key gt) at l ≡ Present t n first stop → Bytes l
+role_types : (people key gt at : ℕ) (l : List ℕ) (t n first stop : ℕ) → present people (role_of key gt) at l ≡ whole t n first stop → Bytes l
     → eqb key gt ≡ true → is_integers (kind_of t) ≡ true
 unfolding role_of
 role_types people key gt at l t n first stop h b e = rw (gt_types people at l t n first stop (rw e at h) b)
@@ -86,7 +86,7 @@ pub record Fields (f : Facts) (alleles n : ℕ) (earlier : List ℕ) (at : ℕ) 
   pub long : length (joined format_bytes (fields_at f.people n at l)) ≤ length l
 
 pub fields_keep : (f : Facts) (alleles n : ℕ) (earlier : List ℕ) (known : Gt) (at : ℕ) (l : List ℕ) {g : Gt}
-    → formats f.strings f.people f.gt alleles n earlier known at l ≡ Sound g → Bytes l → Fields f alleles n earlier at l
+    → formats f.strings f.people f.gt alleles n earlier known at l ≡ Ok g → Bytes l → Fields f alleles n earlier at l
 unfolding items_of joined
 fields_keep f alleles zero earlier known at l h b = record { count = refl; keep = tt; long = omega arith }
 fields_keep f alleles (suc n) earlier known at l h b =

@@ -18,12 +18,10 @@ use Rattle.fixed.specs.declared.Site.{Site}
 use Rattle.fixed.proofs.Fits.{Fits, people_given}
 use Rattle.build_front.specs.Front.{fields_number}
 use Rattle.site.specs.Site.{site}
-use Rattle.site.specs.declared.Step.TheVariants.{At}
 use Rattle.genotypes.specs.Formats.{no_gt}
 use Rattle.genotypes.specs.declared.Gt.{Gt}
-use Rattle.record.specs.Reading.{reading, site_of, genotypes_of}
+use Rattle.record.specs.Reading.{reading, site_of, genotypes_of, accepted_as}
 use Rattle.shown.specs.Shown.{integers, text, Pair}
-use Rattle.record.specs.declared.Reading.TheVariants.{Accepted}
 use Rattle.record.proofs.Accepted.{accepted, accepted_fits}
 use Rattle.build_given.specs.Given.{filters_number}
 use Rattle.shown.specs.Values.{given_bytes}
@@ -44,7 +42,9 @@ use Rattle.choose_laws.proofs.Stored.{Bytes_drop, Bytes_take, field_bound}
 use Rattle.keeps_laws.specs.Tightened.{Tightened}
 use Rattle.keeps_laws.proofs.Values.{elements_from}
 use Rattle.keeps_laws.proofs.Steps.{id_keeps, alleles_at, alleles_keep, filter_keeps, pairs_at, pairs_keep}
+use Rattle.std.specs.Prelude.{Ok}
 use Rattle.keeps_laws.proofs.Genotypes.{fields_at, Fields, fields_keep}
+use Rattle.record.proofs.Accepted.{same_reading}
 
 -- the site block of a record that is read to its last byte: what is shown of it, which keeps the rules
 record Block (strings : ℕ) (t : Site) (l : List ℕ) : Type 0 where
@@ -64,7 +64,7 @@ record Block (strings : ℕ) (t : Site) (l : List ℕ) : Type 0 where
   infos_keep : All (KeepsInfo strings) infos
   long : length (text_bytes id ++ (joined text_bytes alleles ++ (given_bytes integers (length filters) filters ++ joined info_bytes infos))) ≤ length l
 
-block : (f : Facts) (t : Site) (l : List ℕ) (e : ℕ) → site f.strings t.alleles t.infos id_at l ≡ At e → Bytes l → Block f.strings t l
+block : (f : Facts) (t : Site) (l : List ℕ) (e : ℕ) → site f.strings t.alleles t.infos id_at l ≡ Ok e → Bytes l → Block f.strings t l
 unfolding blocks_shown each_in items_of alone flatten
 block f t l e h b =
     let w = site_walk f t id_at l h in
@@ -189,7 +189,7 @@ together f s t x o g k =
       long = rw same long;
     }
 
-kept : (f : Facts) (s : List ℕ) (t : Site) (g : Gt) → Bytes s → reading f s ≡ Accepted t g → Kept f s t
+kept : (f : Facts) (s : List ℕ) (t : Site) (g : Gt) → Bytes s → reading f s ≡ accepted_as t g → Kept f s t
 unfolding site_of genotypes_of
 kept f s t g b h =
     let r = accepted f s t g h in
@@ -200,26 +200,26 @@ kept f s t g b h =
     (block f t _ r.end r.block inside)
 
 -- the laws: what an accepted record shows keeps the rules
-pub accepted_keeps : (f : Facts) (s : List ℕ) (t : Site) (g : Gt) → Bytes s → reading f s ≡ Accepted t g → Keeps f (shown_of t s)
+pub accepted_keeps : (f : Facts) (s : List ℕ) (t : Site) (g : Gt) → Bytes s → reading f s ≡ accepted_as t g → Keeps f (shown_of t s)
 accepted_keeps f s t g b h = (kept f s t g b h).keeps
 
 -- and is written in no more bytes than the record has
-pub no_longer : (f : Facts) (s : List ℕ) (t : Site) (g : Gt) → Bytes s → reading f s ≡ Accepted t g
+pub no_longer : (f : Facts) (s : List ℕ) (t : Site) (g : Gt) → Bytes s → reading f s ≡ accepted_as t g
     → length (record_bytes f.people (shown_of t s)) ≤ t.length
 no_longer f s t g b h = (kept f s t g b h).long
 
 -- so it builds again, over any buffer that has room for the record
-pub accepted_builds : (f : Facts) (s buf : List ℕ) (t : Site) (g : Gt) → Bytes s → reading f s ≡ Accepted t g → t.length ≤ length buf
+pub accepted_builds : (f : Facts) (s buf : List ℕ) (t : Site) (g : Gt) → Bytes s → reading f s ≡ accepted_as t g → t.length ≤ length buf
     → Builds f (shown_of t s) buf (record_bytes f.people (shown_of t s))
 accepted_builds f s buf t g b h room =
     let n = no_longer f s t g b h in
     keeps_builds f (shown_of t s) buf (accepted_keeps f s t g b h) (omega arith)
 
 -- to a tight record, which is accepted to its last byte under the same facts, and shows the same
-pub tightened : (f : Facts) (s : List ℕ) (t : Site) (g : Gt) → Bytes s → reading f s ≡ Accepted t g → Tight f (record_bytes f.people (shown_of t s))
+pub tightened : (f : Facts) (s : List ℕ) (t : Site) (g : Gt) → Bytes s → reading f s ≡ accepted_as t g → Tight f (record_bytes f.people (shown_of t s))
 tightened f s t g b h = keeps_tight f (shown_of t s) (accepted_keeps f s t g b h)
 
-pub tightened_reads : (f : Facts) (s : List ℕ) (t : Site) (g : Gt) → Bytes s → reading f s ≡ Accepted t g → Tightened f (shown_of t s)
+pub tightened_reads : (f : Facts) (s : List ℕ) (t : Site) (g : Gt) → Bytes s → reading f s ≡ accepted_as t g → Tightened f (shown_of t s)
 tightened_reads f s t g b h =
     let r = shown_of t s in
     let x = reads f r [] (accepted_keeps f s t g b h) in
@@ -227,15 +227,15 @@ tightened_reads f s t g b h =
     record { site = x.site; gt = x.gt; read = rw e at x.read; whole = x.whole; people = x.people; shows = rw e at x.shows }
 
 -- a tight record is that already
-pub tight_same : (f : Facts) (s : List ℕ) (t : Site) (g : Gt) → Tight f s → reading f s ≡ Accepted t g → record_bytes f.people (shown_of t s) ≡ s
+pub tight_same : (f : Facts) (s : List ℕ) (t : Site) (g : Gt) → Tight f s → reading f s ≡ accepted_as t g → record_bytes f.people (shown_of t s) ≡ s
 tight_same f s t g x h =
     let r = tight_reads f s x in
     let a = sym h ∙ r.read in
-    let e : t ≡ r.site = cc in
+    let e = (same_reading a).0 in
     ap (λ (u : Site). record_bytes f.people (shown_of u s)) e ∙ ap (record_bytes f.people) r.shows ∙ sym (tight_record f s x)
 
 -- and no accepted record of bytes that shows the same is shorter
-pub shortest : (f : Facts) (s s' : List ℕ) (t t' : Site) (g g' : Gt) → Bytes s → reading f s ≡ Accepted t g → Tight f s' → reading f s' ≡ Accepted t' g'
+pub shortest : (f : Facts) (s s' : List ℕ) (t t' : Site) (g g' : Gt) → Bytes s → reading f s ≡ accepted_as t g → Tight f s' → reading f s' ≡ accepted_as t' g'
     → shown_of t s ≡ shown_of t' s' → length s' ≤ t.length
 shortest f s s' t t' g g' b h x h' same =
     let n = no_longer f s t g b h in

@@ -15,19 +15,12 @@ use Rattle.words.specs.Words.{Bytes, outside}
 use Rattle.types.specs.Rows.{width_of}
 use Rattle.types.specs.declared.Use.TheVariants.{Id, Allele, Filter, Info}
 use Rattle.values.specs.Values.{keyed, present}
-use Rattle.values.specs.declared.Integer.{Integer}
-use Rattle.values.specs.declared.Integer.TheVariants.{One, Refused as NoInteger}
-use Rattle.values.specs.declared.Value.{Value}
-use Rattle.values.specs.declared.Value.TheVariants.{Present, Refused as NoValue}
-use Rattle.vectors.specs.Vectors.{unsound, elements_of}
+use Rattle.vectors.specs.Vectors.{unsound, elements_of, Sound}
 use Rattle.vectors.specs.Sound.{sound}
-use Rattle.vectors.specs.declared.Judged.{Judged}
-use Rattle.vectors.specs.declared.Judged.TheVariants.{Sound, Refused as Unsound}
 use Rattle.site.specs.Steps.{times, value_step, judged_step, no_step}
 use Rattle.site.specs.Alleles.{allele, allele_value, allele_bytes}
 use Rattle.site.specs.Filters.{filter, filter_value, filters, filtered}
 use Rattle.site.specs.Site.{info, info_value}
-use Rattle.site.specs.declared.Step.TheVariants.{At}
 use Rattle.encode.specs.Encode.{integer_bytes}
 use Rattle.shown.specs.Shown.{integers, text, Pair, kind_of}
 use Rattle.build_given.specs.Given.{number_of, filters_number, allele_number}
@@ -45,30 +38,34 @@ use Rattle.shown.specs.Records.{joined, text_bytes, info_bytes}
 use Rattle.build_laws.proofs.Values.{number_filters}
 use Rattle.choose_laws.proofs.Stored.{Bytes_drop}
 use Rattle.keeps_laws.proofs.Descriptors.{key_keeps, not_outside}
+use Rattle.values.specs.declared.Value.{Value}
+use Rattle.std.specs.Prelude.{Err, Ok}
+use Rattle.values.specs.declared.Integer.{Integer}
+use Rattle.values.specs.Answers.{Answer, one, whole}
 use Rattle.keeps_laws.proofs.Values.{elements_from, value_there, value_keeps, id_text, allele_text, filter_types, text_part, there_takes}
 
 -- a value that a step went past
-record Past (v : Value) (q : ℕ) : Type 0 where
+record Past (v : Answer Value) (q : ℕ) : Type 0 where
   code : ℕ
   len : ℕ
   first : ℕ
-  there : v ≡ Present code len first q
+  there : v ≡ whole code len first q
 
-value_past : (v : Value) (q : ℕ) → value_step v ≡ At q → Past v q
-value_past (NoValue r) q h = let z : ◌≡◌ {A = ℕ} 0 1 = cc in absurd (omega arith)
-value_past (Present t n first stop) q h = let e : stop ≡ q = cc in record { code = t; len = n; first = first; there = rw e }
+value_past : (v : Answer Value) (q : ℕ) → value_step v ≡ Ok q → Past v q
+value_past (Err r) q h = let z : ◌≡◌ {A = ℕ} 0 1 = cc in absurd (omega arith)
+value_past (Ok v) q h = let e : v.stop ≡ q = cc in record { code = v.code; len = v.len; first = v.first; there = rw (← e) }
 
 -- ID
 pub record IdKeeps (at : ℕ) (l : List ℕ) (q : ℕ) : Type 0 where
   pub code : ℕ
   pub len : ℕ
   pub first : ℕ
-  pub there : present 1 Id at l ≡ Present code len first q
+  pub there : present 1 Id at l ≡ whole code len first q
   pub fit : Fit text (elements_from at l code first q)
   pub rules : given_number any text (length (elements_from at l code first q)) (elements_from at l code first q) ≡ 0
   pub long : length (text_bytes (elements_from at l code first q)) + length (drop (q - at) l) ≤ length l
 
-pub id_keeps : (at : ℕ) (l : List ℕ) (q : ℕ) → value_step (sound 1 0 Id at l) ≡ At q → Bytes l → IdKeeps at l q
+pub id_keeps : (at : ℕ) (l : List ℕ) (q : ℕ) → value_step (sound 1 0 Id at l) ≡ Ok q → Bytes l → IdKeeps at l q
 id_keeps at l q h b =
     let p = value_past (sound 1 0 Id at l) q h in
     let t = p.code in
@@ -94,26 +91,26 @@ record Alleled (at : ℕ) (l : List ℕ) (q : ℕ) : Type 0 where
   code : ℕ
   len : ℕ
   first : ℕ
-  there : present 1 Allele at l ≡ Present code len first q
+  there : present 1 Allele at l ≡ whole code len first q
   some : eqb len 0 ≡ false
   sound : allele_bytes 0 (take (q - first) (drop (first - at) l)) ≡ Sound
 
-alleled : (at : ℕ) (l : List ℕ) (q : ℕ) → allele at l ≡ At q → Alleled at l q
+alleled : (at : ℕ) (l : List ℕ) (q : ℕ) → allele at l ≡ Ok q → Alleled at l q
 unfolding allele
 alleled at l q h = by_value (present 1 Allele at l) refl h
   where
-    by-elements : (t n first stop : ℕ) (b : Bool) (j : Judged) → present 1 Allele at l ≡ Present t n first stop → eqb n 0 ≡ b
-        → allele_bytes 0 (take (stop - first) (drop (first - at) l)) ≡ j → pick b (no_step 7 at) (judged_step first stop j) ≡ At q → Alleled at l q
+    by-elements : (t n first stop : ℕ) (b : Bool) (j : Answer (Unit {0})) → present 1 Allele at l ≡ whole t n first stop → eqb n 0 ≡ b
+        → allele_bytes 0 (take (stop - first) (drop (first - at) l)) ≡ j → pick b (no_step 7 at) (judged_step first stop j) ≡ Ok q → Alleled at l q
     by-elements t n first stop true j p s k e = let z : ◌≡◌ {A = ℕ} 0 1 = cc in absurd (omega arith)
-    by-elements t n first stop false (Unsound r) p s k e = let z : ◌≡◌ {A = ℕ} 0 1 = cc in absurd (omega arith)
+    by-elements t n first stop false (Err r) p s k e = let z : ◌≡◌ {A = ℕ} 0 1 = cc in absurd (omega arith)
     by-elements t n first stop false Sound p s k e =
         let same : stop ≡ q = cc in
         record { code = t; len = n; first = first; there = rw same at p; some = s; sound = rw same at k }
 
-    by_value : (v : Value) → present 1 Allele at l ≡ v → allele_value at l v ≡ At q → Alleled at l q
-    by_value (NoValue r) p e = let z : ◌≡◌ {A = ℕ} 0 1 = cc in absurd (omega arith)
-    by_value (Present t n first stop) p e =
-        by-elements t n first stop (eqb n 0) (allele_bytes 0 (take (stop - first) (drop (first - at) l))) p refl refl e
+    by_value : (v : Answer Value) → present 1 Allele at l ≡ v → allele_value at l v ≡ Ok q → Alleled at l q
+    by_value (Err r) p e = let z : ◌≡◌ {A = ℕ} 0 1 = cc in absurd (omega arith)
+    by_value (Ok v) p e =
+        by-elements v.code v.len v.first v.stop (eqb v.len 0) (allele_bytes 0 (take (v.stop - v.first) (drop (v.first - at) l))) p refl refl e
 
 record AlleleKeeps (at : ℕ) (l : List ℕ) (q code first : ℕ) : Type 0 where
   keeps : KeepsAllele (elements_from at l code first q)
@@ -123,7 +120,7 @@ allele_keeps : (at : ℕ) (l : List ℕ) (q : ℕ) → Bytes l → (a : Alleled 
 unfolding allele_number
 allele_keeps at l q b a = of a.code a.len a.first (allele_text 1 at l a.code a.len a.first q a.there b) a.there a.some a.sound
   where
-    of : (t n first : ℕ) → t ≡ 7 → present 1 Allele at l ≡ Present t n first q → eqb n 0 ≡ false
+    of : (t n first : ℕ) → t ≡ 7 → present 1 Allele at l ≡ whole t n first q → eqb n 0 ≡ false
         → allele_bytes 0 (take (q - first) (drop (first - at) l)) ≡ Sound → AlleleKeeps at l q t first
     of t n first seven here some sound =
         let v = value_there 1 Allele at l t n first q here b in
@@ -148,7 +145,7 @@ pub record Alleles (n at : ℕ) (l : List ℕ) (q : ℕ) : Type 0 where
   pub long : length (joined text_bytes (alleles_at n at l)) + length (drop (q - at) l) ≤ length l
   pub later : at ≤ q
 
-pub alleles_keep : (n at : ℕ) (l : List ℕ) (q : ℕ) → times allele n at l ≡ At q → Bytes l → Alleles n at l q
+pub alleles_keep : (n at : ℕ) (l : List ℕ) (q : ℕ) → times allele n at l ≡ Ok q → Bytes l → Alleles n at l q
 unfolding times items_of alone joined
 alleles_keep zero at l q h b =
     let e : at ≡ q = cc in
@@ -180,7 +177,7 @@ filters_inside strings w at earlier [] h = tt
 filters_inside strings w at earlier (x ∷ xs) h =
     by_tests (outside strings x) (among x earlier) refl h (filters_inside strings w (at + w) (x ∷ earlier) xs)
   where
-    rest : Judged
+    rest : Answer (Unit {0})
     rest = filters strings w (at + w) (x ∷ earlier) xs
 
     by_tests : (a b : Bool) → outside strings x ≡ a → pick a (unsound 8 at) (pick b (unsound 11 at) rest) ≡ Sound
@@ -193,26 +190,26 @@ record Filtered (strings at : ℕ) (l : List ℕ) (q : ℕ) : Type 0 where
   code : ℕ
   len : ℕ
   first : ℕ
-  there : present 1 Filter at l ≡ Present code len first q
+  there : present 1 Filter at l ≡ whole code len first q
   sound : filtered strings code (take (q - first) (drop (first - at) l)) ≡ Sound
 
-filtered_there : (strings at : ℕ) (l : List ℕ) (q : ℕ) → filter strings at l ≡ At q → Filtered strings at l q
+filtered_there : (strings at : ℕ) (l : List ℕ) (q : ℕ) → filter strings at l ≡ Ok q → Filtered strings at l q
 unfolding filter
 filtered_there strings at l q h = by_value (present 1 Filter at l) refl h
   where
-    by-elements : (t n first stop : ℕ) (j : Judged) → present 1 Filter at l ≡ Present t n first stop
-        → filtered strings t (take (stop - first) (drop (first - at) l)) ≡ j → judged_step first stop j ≡ At q → Filtered strings at l q
-    by-elements t n first stop (Unsound r) p k e = let z : ◌≡◌ {A = ℕ} 0 1 = cc in absurd (omega arith)
+    by-elements : (t n first stop : ℕ) (j : Answer (Unit {0})) → present 1 Filter at l ≡ whole t n first stop
+        → filtered strings t (take (stop - first) (drop (first - at) l)) ≡ j → judged_step first stop j ≡ Ok q → Filtered strings at l q
+    by-elements t n first stop (Err r) p k e = let z : ◌≡◌ {A = ℕ} 0 1 = cc in absurd (omega arith)
     by-elements t n first stop Sound p k e =
         let same : stop ≡ q = cc in
         record { code = t; len = n; first = first; there = rw same at p; sound = rw same at k }
 
-    by_value : (v : Value) → present 1 Filter at l ≡ v → filter_value strings at l v ≡ At q → Filtered strings at l q
-    by_value (NoValue r) p e = let z : ◌≡◌ {A = ℕ} 0 1 = cc in absurd (omega arith)
-    by_value (Present t n first stop) p e = by-elements t n first stop (filtered strings t (take (stop - first) (drop (first - at) l))) p refl e
+    by_value : (v : Answer Value) → present 1 Filter at l ≡ v → filter_value strings at l v ≡ Ok q → Filtered strings at l q
+    by_value (Err r) p e = let z : ◌≡◌ {A = ℕ} 0 1 = cc in absurd (omega arith)
+    by_value (Ok v) p e = by-elements v.code v.len v.first v.stop (filtered strings v.code (take (v.stop - v.first) (drop (v.first - at) l))) p refl e
 
 -- the elements that were judged are those that are shown
-filtered_shown : (strings at : ℕ) (l : List ℕ) (t n first stop : ℕ) → present 1 Filter at l ≡ Present t n first stop
+filtered_shown : (strings at : ℕ) (l : List ℕ) (t n first stop : ℕ) → present 1 Filter at l ≡ whole t n first stop
     → filtered strings t (take (stop - first) (drop (first - at) l)) ≡ filters strings (width_of t) 0 [] (elements_from at l t first stop)
 unfolding filtered elements_of
 filtered_shown strings at l t n first stop h =
@@ -228,13 +225,13 @@ pub record FilterKeeps (strings at : ℕ) (l : List ℕ) (q : ℕ) : Type 0 wher
   pub code : ℕ
   pub len : ℕ
   pub first : ℕ
-  pub there : present 1 Filter at l ≡ Present code len first q
+  pub there : present 1 Filter at l ≡ whole code len first q
   pub fit : Fit integers (elements_from at l code first q)
   pub rules : filters_number strings (elements_from at l code first q) ≡ 0
   pub long : length (given_bytes integers (length (elements_from at l code first q)) (elements_from at l code first q)) + length (drop (q - at) l) ≤ length l
   pub later : at ≤ q
 
-pub filter_keeps : (strings at : ℕ) (l : List ℕ) (q : ℕ) → filter strings at l ≡ At q → Bytes l → FilterKeeps strings at l q
+pub filter_keeps : (strings at : ℕ) (l : List ℕ) (q : ℕ) → filter strings at l ≡ Ok q → Bytes l → FilterKeeps strings at l q
 unfolding filters_number
 filter_keeps strings at l q h b =
     let f = filtered_there strings at l q h in
@@ -267,18 +264,18 @@ record Paired (strings at : ℕ) (l : List ℕ) (q : ℕ) : Type 0 where
   code : ℕ
   len : ℕ
   first : ℕ
-  number : keyed strings at l ≡ One key next
-  value : sound 1 0 Info next (drop (next - at) l) ≡ Present code len first q
+  number : keyed strings at l ≡ one key next
+  value : sound 1 0 Info next (drop (next - at) l) ≡ whole code len first q
 
-pair_there : (strings at : ℕ) (l : List ℕ) (q : ℕ) → info strings at l ≡ At q → Paired strings at l q
+pair_there : (strings at : ℕ) (l : List ℕ) (q : ℕ) → info strings at l ≡ Ok q → Paired strings at l q
 unfolding info
 pair_there strings at l q h = by_key (keyed strings at l) refl h
   where
-    by_key : (i : Integer) → keyed strings at l ≡ i → info_value at l i ≡ At q → Paired strings at l q
-    by_key (NoInteger r) p e = let z : ◌≡◌ {A = ℕ} 0 1 = cc in absurd (omega arith)
-    by_key (One key next) p e =
-        let v = value_past (sound 1 0 Info next (drop (next - at) l)) q e in
-        record { key = key; next = next; code = v.code; len = v.len; first = v.first; number = p; value = v.there }
+    by_key : (i : Answer Integer) → keyed strings at l ≡ i → info_value at l i ≡ Ok q → Paired strings at l q
+    by_key (Err r) p e = let z : ◌≡◌ {A = ℕ} 0 1 = cc in absurd (omega arith)
+    by_key (Ok i) p e =
+        let v = value_past (sound 1 0 Info i.next (drop (i.next - at) l)) q e in
+        record { key = i.bits; next = i.next; code = v.code; len = v.len; first = v.first; number = p; value = v.there }
 
 -- the pair that is shown
 abbrev pair_at : ℕ → List ℕ → ℕ → ℕ → ℕ → ℕ → ℕ → Pair
@@ -325,7 +322,7 @@ pub record Pairs (strings n at : ℕ) (l : List ℕ) : Type 0 where
   pub keep : All (KeepsInfo strings) (pairs_at n at l)
   pub long : length (joined info_bytes (pairs_at n at l)) ≤ length l
 
-pub pairs_keep : (strings n at : ℕ) (l : List ℕ) (q : ℕ) → times (info strings) n at l ≡ At q → Bytes l → Pairs strings n at l
+pub pairs_keep : (strings n at : ℕ) (l : List ℕ) (q : ℕ) → times (info strings) n at l ≡ Ok q → Bytes l → Pairs strings n at l
 unfolding times items_of paired joined
 pairs_keep strings zero at l q h b = record { count = refl; keep = tt; long = omega arith }
 pairs_keep strings (suc n) at l q h b =

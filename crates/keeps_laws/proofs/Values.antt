@@ -16,12 +16,10 @@ use Rattle.types.specs.Rows.{row_of, width_of}
 use Rattle.types.specs.Elements.{kind, shown}
 use Rattle.types.specs.declared.Use.{Use}
 use Rattle.types.specs.declared.Use.TheVariants.{Id, Allele, Filter, Gt}
-use Rattle.types.proofs.Table.{whole, or_bare, rows_rule}
+use Rattle.types.proofs.Table.{whole as whole_number, or_bare, rows_rule}
 use Rattle.values.specs.Values.{present}
-use Rattle.values.specs.declared.Value.TheVariants.{Present}
-use Rattle.vectors.specs.Vectors.{numbers, judged, elements_of}
+use Rattle.vectors.specs.Vectors.{numbers, judged, elements_of, Sound}
 use Rattle.vectors.specs.Sound.{most_of}
-use Rattle.vectors.specs.declared.Judged.TheVariants.{Sound}
 use Rattle.encode.specs.Encode.{type_for, widest}
 use Rattle.encode.proofs.Lengths.{length_value_bytes}
 use Rattle.shown.specs.Shown.{integers, kind_of}
@@ -37,6 +35,7 @@ use Rattle.build_laws.proofs.Widths.{widest_types, type_for_narrowest}
 use Rattle.choose_laws.proofs.Stored.{Bytes_drop, Bytes_take}
 use Rattle.keeps_laws.proofs.Elements.{by_wide, narrowest_shown, width_under, widest_under}
 use Rattle.keeps_laws.proofs.Vectors.{numbers_bound, length_numbers, judged_given, numbers_fit}
+use Rattle.values.specs.Answers.{whole}
 use Rattle.keeps_laws.proofs.Descriptors.{whole_types, Stands, empty, filled, Described, described_long}
 
 -- the type that elements are written in is no wider than the one that takes each
@@ -88,7 +87,7 @@ pub record ValueThere (vectors at : ℕ) (l : List ℕ) (t n first stop : ℕ) :
   pub long : (given_as (kind_of t) ≡ 3 → All (λ x. type_for (kind 3 x) x ≤ t) (elements_from at l t first stop))
       → length (given_bytes (kind_of t) n (elements_from at l t first stop)) + length (drop (stop - at) l) ≤ length l
 
-pub value_there : (vectors : ℕ) (role : Use) (at : ℕ) (l : List ℕ) (t n first stop : ℕ) → present vectors role at l ≡ Present t n first stop → Bytes l
+pub value_there : (vectors : ℕ) (role : Use) (at : ℕ) (l : List ℕ) (t n first stop : ℕ) → present vectors role at l ≡ whole t n first stop → Bytes l
     → ValueThere vectors at l t n first stop
 unfolding given_bytes
 value_there vectors role at l t n first stop h b =
@@ -137,7 +136,7 @@ pub record ValueKeeps (vectors alleles : ℕ) (role : Use) (at : ℕ) (l : List 
   pub rules : given_number (most_of role alleles (given_as (kind_of t))) (kind_of t) n (elements_from at l t first stop) ≡ 0
   pub long : length (given_bytes (kind_of t) n (elements_from at l t first stop)) + length (drop (stop - at) l) ≤ length l
 
-pub value_keeps : (vectors alleles : ℕ) (role : Use) (at : ℕ) (l : List ℕ) (t n first stop : ℕ) → present vectors role at l ≡ Present t n first stop → Bytes l
+pub value_keeps : (vectors alleles : ℕ) (role : Use) (at : ℕ) (l : List ℕ) (t n first stop : ℕ) → present vectors role at l ≡ whole t n first stop → Bytes l
     → judged (most_of role alleles t) t n (take (stop - first) (drop (first - at) l)) ≡ Sound → ValueKeeps vectors alleles role at l t n first stop
 unfolding given_number elements_number vectors_given
 value_keeps vectors alleles role at l t n first stop h b j = by_type (described_long role at l t n first i.descriptor b).there
@@ -167,17 +166,17 @@ value_keeps vectors alleles role at l t n first stop h b j = by_type (described_
         }
 
 -- ID and alleles are text; FILTER and GT are integers, a bare 00 too
-described_there : (vectors : ℕ) (role : Use) (at : ℕ) (l : List ℕ) (t n first stop : ℕ) → present vectors role at l ≡ Present t n first stop → Bytes l
+described_there : (vectors : ℕ) (role : Use) (at : ℕ) (l : List ℕ) (t n first stop : ℕ) → present vectors role at l ≡ whole t n first stop → Bytes l
     → Described role at t n first
 described_there vectors role at l t n first stop h b =
     described_long role at l t n first (present_typed vectors role at l t n first stop h).descriptor b
 
-pub id_text : (vectors at : ℕ) (l : List ℕ) (t n first stop : ℕ) → present vectors Id at l ≡ Present t n first stop → Bytes l → t ≡ 7
+pub id_text : (vectors at : ℕ) (l : List ℕ) (t n first stop : ℕ) → present vectors Id at l ≡ whole t n first stop → Bytes l → t ≡ 7
 id_text vectors at l t n first stop h b =
     let d = described_there vectors Id at l t n first stop h b in
     eqb-true t 7 (sym (rows_rule t d.code).id ∙ d.fits)
 
-pub allele_text : (vectors at : ℕ) (l : List ℕ) (t n first stop : ℕ) → present vectors Allele at l ≡ Present t n first stop → Bytes l → t ≡ 7
+pub allele_text : (vectors at : ℕ) (l : List ℕ) (t n first stop : ℕ) → present vectors Allele at l ≡ whole t n first stop → Bytes l → t ≡ 7
 allele_text vectors at l t n first stop h b =
     let d = described_there vectors Allele at l t n first stop h b in
     eqb-true t 7 (sym (rows_rule t d.code).allele ∙ d.fits)
@@ -185,21 +184,21 @@ allele_text vectors at l t n first stop h b =
 integers_kind : (t : ℕ) → t ≤ 3 → kind_of t ≡ integers
 integers_kind t h = rw (ne_eqb t 7 (λ e. omega arith), ne_eqb t 5 (λ e. omega arith))
 
-bare_types : (t : ℕ) → or_bare t (whole t) ≡ true → t ≤ 3
+bare_types : (t : ℕ) → or_bare t (whole_number t) ≡ true → t ≤ 3
 bare_types t h = by-test (eqb t 0) refl h
   where
-    by-test : (b : Bool) → eqb t 0 ≡ b → pick b true (whole t) ≡ true → t ≤ 3
+    by-test : (b : Bool) → eqb t 0 ≡ b → pick b true (whole_number t) ≡ true → t ≤ 3
     by-test true p e = omega (arith, eqb-true t 0 p)
     by-test false p e = (whole_types t e).1
 
-pub filter_types : (vectors at : ℕ) (l : List ℕ) (t n first stop : ℕ) → present vectors Filter at l ≡ Present t n first stop → Bytes l
+pub filter_types : (vectors at : ℕ) (l : List ℕ) (t n first stop : ℕ) → present vectors Filter at l ≡ whole t n first stop → Bytes l
     → (t ≤ 3) × (kind_of t ≡ integers)
 filter_types vectors at l t n first stop h b =
     let d = described_there vectors Filter at l t n first stop h b in
     let e = bare_types t (sym (rows_rule t d.code).filter ∙ d.fits) in
     (e, integers_kind t e)
 
-pub gt_types : (vectors at : ℕ) (l : List ℕ) (t n first stop : ℕ) → present vectors Gt at l ≡ Present t n first stop → Bytes l → kind_of t ≡ integers
+pub gt_types : (vectors at : ℕ) (l : List ℕ) (t n first stop : ℕ) → present vectors Gt at l ≡ whole t n first stop → Bytes l → kind_of t ≡ integers
 gt_types vectors at l t n first stop h b =
     let d = described_there vectors Gt at l t n first stop h b in
     integers_kind t (bare_types t (sym (rows_rule t d.code).gt ∙ d.fits))
@@ -214,7 +213,7 @@ wide_text : 0 < width_of 7
 unfolding width_of row_of
 wide_text = omega arith
 
-pub text_part : (vectors : ℕ) (role : Use) (at : ℕ) (l : List ℕ) (n first stop : ℕ) → present vectors role at l ≡ Present 7 n first stop → Bytes l
+pub text_part : (vectors : ℕ) (role : Use) (at : ℕ) (l : List ℕ) (n first stop : ℕ) → present vectors role at l ≡ whole 7 n first stop → Bytes l
     → elements_from at l 7 first stop ≡ take (stop - first) (drop (first - at) l)
 unfolding width_of row_of
 text_part vectors role at l n first stop h b =
@@ -233,7 +232,7 @@ positive_takes t a b (y ∷ ys) h k =
     let m = type_for_narrowest (kind 3 (shown t y)) (shown t y) in
     (omega arith, positive_takes t a b ys h.1 k.1)
 
-pub there_takes : (vectors : ℕ) (role : Use) (at : ℕ) (l : List ℕ) (t n first stop : ℕ) → present vectors role at l ≡ Present t n first stop → Bytes l
+pub there_takes : (vectors : ℕ) (role : Use) (at : ℕ) (l : List ℕ) (t n first stop : ℕ) → present vectors role at l ≡ whole t n first stop → Bytes l
     → t ≤ 3 → All (λ x. x < 0x80000000) (elements_from at l t first stop) → All (λ x. type_for (kind 3 x) x ≤ t) (elements_from at l t first stop)
 there_takes vectors role at l t n first stop h b k f = by_type (described_there vectors role at l t n first stop h b).there
   where

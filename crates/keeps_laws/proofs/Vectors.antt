@@ -19,9 +19,7 @@ use Rattle.types.specs.declared.Use.{Use}
 use Rattle.types.specs.declared.Element.{Element}
 use Rattle.types.specs.declared.Element.TheVariants.{Plain, Missing, End, Reserved}
 use Rattle.vectors.specs.Sound.{most_of}
-use Rattle.vectors.specs.Vectors.{numbers, element_turn, follow, vector, vectors, judged}
-use Rattle.vectors.specs.declared.Judged.{Judged}
-use Rattle.vectors.specs.declared.Judged.TheVariants.{Sound}
+use Rattle.vectors.specs.Vectors.{numbers, element_turn, follow, vector, vectors, judged, Sound}
 use Rattle.encode.specs.Encode.{type_for}
 use Rattle.shown.specs.Shown.{kind_of}
 use Rattle.build_given.specs.Given.{vectors_given, elements_number}
@@ -29,6 +27,7 @@ use Rattle.build_rules.specs.Values.{given_as}
 use Rattle.build_laws.specs.Records.{All, Fit}
 use Rattle.choose_laws.proofs.Judging.{both_sound}
 use Rattle.choose_laws.proofs.Stored.{Bytes_drop, Bytes_take}
+use Rattle.values.specs.Answers.{Answer}
 use Rattle.keeps_laws.proofs.Elements.{Shows, shows, shown_fits}
 
 -- numbers of bytes are of their width
@@ -101,7 +100,7 @@ unfolding vector
 vector_plain most t w at e [] h = tt
 vector_plain most t w at e (y ∷ ys) h = by_kind (kind t y) refl e h (λ b. vector_plain most t w (at + w) b ys)
   where
-    rest : Bool → Judged
+    rest : Bool → Answer (Unit {0})
     rest b = vector most t w (at + w) b ys
 
     by_kind : (k : Element) → kind t y ≡ k → (b : Bool) → follow at (element_turn most b k y) rest ≡ Sound
@@ -125,10 +124,10 @@ vector_shown t g w w' at at' alleles role e [] f h = refl
 vector_shown t g w w' at at' alleles role e (y ∷ ys) f h =
     rw f.0.same (by_kind (kind t y) e h (λ b. vector_shown t g w w' (at + w) (at' + w') alleles role b ys f.1))
   where
-    held : Bool → Judged
+    held : Bool → Answer (Unit {0})
     held b = vector (most_of role alleles t) t w (at + w) b ys
 
-    given : Bool → Judged
+    given : Bool → Answer (Unit {0})
     given b = vector (most_of role alleles g) g w' (at' + w') b (map (shown t) ys)
 
     by_kind : (k : Element) (b : Bool) → follow at (element_turn (most_of role alleles t) b k y) held ≡ Sound → ((b : Bool) → held b ≡ Sound → given b ≡ Sound)

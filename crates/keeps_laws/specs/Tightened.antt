@@ -4,9 +4,8 @@ use Rattle.std.specs.Prelude.{◌≡◌, length}
 use Rattle.facts.specs.declared.Facts.{Facts}
 use Rattle.fixed.specs.declared.Site.{Site}
 use Rattle.genotypes.specs.declared.Gt.{Gt}
-use Rattle.record.specs.Reading.{reading}
+use Rattle.record.specs.Reading.{reading, accepted_as}
 use Rattle.shown.specs.Shown.{Shown}
-use Rattle.record.specs.declared.Reading.TheVariants.{Accepted}
 use Rattle.contents.specs.Contents.{shown_of}
 use Rattle.shown.specs.Records.{record_bytes}
 
@@ -14,7 +13,7 @@ use Rattle.shown.specs.Records.{record_bytes}
 pub record Tightened (f : Facts) (r : Shown) : Type 0 where
   pub site : Site
   pub gt : Gt
-  pub read : reading f (record_bytes f.people r) ≡ Accepted site gt
+  pub read : reading f (record_bytes f.people r) ≡ accepted_as site gt
   pub whole : site.length ≡ length (record_bytes f.people r)
   pub people : site.people ≡ f.people
   pub shows : shown_of site (record_bytes f.people r) ≡ r

@@ -15,14 +15,12 @@ use Rattle.fixed.specs.Layout.{chrom_at, pos_at, rlen_at, qual_at, counts_at, pe
 use Rattle.facts.specs.declared.Facts.{Facts}
 use Rattle.fixed.specs.declared.Site.{Site}
 use Rattle.genotypes.specs.declared.Gt.{Gt}
-use Rattle.record.specs.Reading.{reading}
-use Rattle.record.specs.declared.Reading.TheVariants.{Accepted}
+use Rattle.record.specs.Reading.{reading, accepted_as}
 use Rattle.record.proofs.Accepted.{accepted_fits}
 use Rattle.fetch.specs.Fields.{alone}
 use Rattle.fetch.specs.Account.{fields_of, site_kinds, site_fields, genotype_fields, account, of_kind, numbered}
 use Rattle.fetch.specs.Fetch.{field_of, found}
 use Rattle.fetch.specs.declared.Kind.{Kind}
-use Rattle.fetch.specs.declared.Found.TheVariants.{Refused as NoField}
 use Rattle.choose_laws.proofs.Stored.{field_bound}
 use Rattle.build.specs.Order.{rank}
 use Rattle.build.specs.Turns.{fresh_state}
@@ -31,6 +29,7 @@ use Rattle.build.specs.declared.Stage.TheVariants.{Fresh, Begun, Named, Alleles,
 use Rattle.build.specs.declared.Builder.{Builder}
 use Rattle.c_answers.specs.Told.{answer, refused_answer, site_numbers, site_told, empty_site}
 use Rattle.c_state.specs.Kept.{stage_of, state_numbers, state_of}
+use Rattle.std.specs.Prelude.{Err}
 use Rattle.laws.specs.Answers.{Ranges, SiteRanges, Answers}
 
 number_told : (n low : ℕ) → answer n low / 4294967296 ≡ n
@@ -70,7 +69,7 @@ site_back t g rest r =
     rw (le-ltb _ _ room, mod-eq_of_lt r.chrom, mod-eq_of_lt (pos_bits_bound t.pos r.pos), pos_of_pos_bits t.pos r.pos, mod-eq_of_lt r.rlen, mod-eq_of_lt r.qual, mod-eq_of_lt r.alleles, mod-eq_of_lt r.infos, mod-eq_of_lt r.formats, mod-eq_of_lt r.people)
 
 -- a fixed field is a number of four bytes, and a count is a part of one
-site_ranges : (f : Facts) (s : List ℕ) (t : Site) (g : Gt) → Bytes s → reading f s ≡ Accepted t g → SiteRanges t
+site_ranges : (f : Facts) (s : List ℕ) (t : Site) (g : Gt) → Bytes s → reading f s ≡ accepted_as t g → SiteRanges t
 site_ranges f s t g b h =
     let fits = accepted_fits f s t g h in
     let long : 32 ≤ length s = omega (arith, fits.border, fits.whole, fits.there, fits.site) in
@@ -87,17 +86,17 @@ site_ranges f s t g b h =
       people = omega (arith, members, fits.people);
     }
 
-told_again : (f : Facts) (s : List ℕ) (t : Site) (g : Gt) (rest : List ℕ) (kind : Kind) (number : ℕ) → Bytes s → reading f s ≡ Accepted t g
+told_again : (f : Facts) (s : List ℕ) (t : Site) (g : Gt) (rest : List ℕ) (kind : Kind) (number : ℕ) → Bytes s → reading f s ≡ accepted_as t g
     → field_of kind number (site_told (site_numbers t g ++ rest)) s ≡ found f kind number s
 unfolding found
 told_again f s t g rest kind number b h = rw (site_back t g rest (site_ranges f s t g b h), h)
 
 -- both blocks of the empty site are empty, so the first value is cut short
-empty_none : (kind : Kind) (number : ℕ) (s : List ℕ) → field_of kind number empty_site s ≡ NoField (refusal 16 0)
+empty_none : (kind : Kind) (number : ℕ) (s : List ℕ) → field_of kind number empty_site s ≡ Err (refusal 16 0)
 unfolding field_of numbered of_kind account site_fields genotype_fields site_kinds fields_of alone present described
 empty_none kind number s = refl
 
-few_none : (ns s : List ℕ) (kind : Kind) (number : ℕ) → length ns < 13 → field_of kind number (site_told ns) s ≡ NoField (refusal 16 0)
+few_none : (ns s : List ℕ) (kind : Kind) (number : ℕ) → length ns < 13 → field_of kind number (site_told ns) s ≡ Err (refusal 16 0)
 unfolding site_told
 few_none ns s kind number h = rw (lt-ltb _ _ h) (empty_none kind number s)
 

@@ -12,16 +12,12 @@ use Rattle.types.specs.declared.Use.TheVariants.{Id, Allele, Filter, Info, Forma
 use Rattle.facts.specs.declared.Facts.{Facts}
 use Rattle.fixed.specs.declared.Site.{Site}
 use Rattle.genotypes.specs.declared.Gt.{Gt}
-use Rattle.record.specs.Reading.{reading}
-use Rattle.record.specs.declared.Reading.TheVariants.{Accepted}
+use Rattle.record.specs.Reading.{reading, accepted_as}
 use Rattle.record.proofs.Accepted.{accepted_fits}
 use Rattle.fetch.specs.Fetch.{found}
 use Rattle.fetch.specs.declared.Kind.{Kind}
-use Rattle.fetch.specs.declared.Found.{Found}
-use Rattle.fetch.specs.declared.Found.TheVariants.{Field, Refused}
 use Rattle.contents.specs.Contents.{shown_of}
 use Rattle.tally.specs.Tally.{nobody, calls_of, tallied}
-use Rattle.tally.specs.declared.Counting.TheVariants.{Counted}
 use Rattle.build_laws.specs.Builds.{Tight, Builds}
 use Rattle.build_laws.proofs.Builds.{tight_reads, tight_again}
 use Rattle.bare_laws.specs.Ones.{with_ones}
@@ -32,40 +28,44 @@ use Rattle.bare_laws.proofs.Account.{TypeOther, found_left}
 use Rattle.bare_laws.proofs.Account.{shown_of_ones}
 use Rattle.bare_laws.proofs.Records.{lies, reads_ones}
 use Rattle.bare_laws.proofs.Tight.{tight_ones}
+use Rattle.std.specs.Prelude.{Err, Ok}
+use Rattle.fetch.specs.Fields.{found_field}
+use Rattle.fetch.specs.declared.Found.{Found}
+use Rattle.values.specs.Answers.{Answer}
 use Rattle.laws.specs.Bare.{Bare}
+use Rattle.fetch.proofs.Held.{same_field}
 
-nobody_called : (f : Facts) (s : List ℕ) (t : Site) (g : Gt) → reading f s ≡ Accepted t g → g.code ≡ 0 → t.alleles ≤ 64
-    → tallied f s ≡ record { answer = Counted t; calls = nobody t.people }
+nobody_called : (f : Facts) (s : List ℕ) (t : Site) (g : Gt) → reading f s ≡ accepted_as t g → g.code ≡ 0 → t.alleles ≤ 64
+    → tallied f s ≡ record { answer = Ok t; calls = nobody t.people }
 unfolding tallied calls_of
 nobody_called f s t g h e few = rw (h, le-ltb 64 t.alleles few, gt_empty f s t g h e)
 
-as_long : (f : Facts) (s : List ℕ) (t : Site) (g : Gt) → reading f s ≡ Accepted t g → length (with_ones t s) ≡ length s
+as_long : (f : Facts) (s : List ℕ) (t : Site) (g : Gt) → reading f s ≡ accepted_as t g → length (with_ones t s) ≡ length s
 as_long f s t g h = (lies f s t (accepted_fits f s t g h)).length_same
 
 -- a type that is not 0
-other_type : (r : Found) (key code n place stop : ℕ) → TypeOther r → r ≡ Field key code n place stop → 0 < code
-other_type (Refused x) key code n place stop h e = let z : ◌≡◌ {A = ℕ} 0 1 = cc in absurd (omega arith)
-other_type (Field k t m p q) key code n place stop h e =
-    let same : t ≡ code = cc in
-    above code (rw same at h)
+other_type : (r : Answer Found) (key code n place stop : ℕ) → TypeOther r → r ≡ found_field key code n place stop → 0 < code
+other_type (Err x) key code n place stop h e = let z : ◌≡◌ {A = ℕ} 0 1 = cc in absurd (omega arith)
+other_type (Ok x) key code n place stop h e =
+    above code (rw (same_field e).1 at h)
   where
     above : (c : ℕ) → eqb c 0 ≡ false → 0 < c
     above zero h = let z : ◌≡◌ {A = ℕ} 0 1 = cc in absurd (omega arith)
     above (suc c) h = omega arith
 
-none_left : (f : Facts) (s : List ℕ) (t : Site) (g : Gt) → reading f s ≡ Accepted t g
-    → (kind : Kind) (number key code n place stop : ℕ) → found f kind number (with_ones t s) ≡ Field key code n place stop → 0 < code
+none_left : (f : Facts) (s : List ℕ) (t : Site) (g : Gt) → reading f s ≡ accepted_as t g
+    → (kind : Kind) (number key code n place stop : ℕ) → found f kind number (with_ones t s) ≡ found_field key code n place stop → 0 < code
 none_left f s t g h kind number key code n place stop e =
     other_type (found f kind number (with_ones t s)) key code n place stop (found_left f kind number s t g h) e
 
 tight_none : (f : Facts) (s : List ℕ) → Tight f s
-    → (kind : Kind) (number key code n place stop : ℕ) → found f kind number s ≡ Field key code n place stop → 0 < code
+    → (kind : Kind) (number key code n place stop : ℕ) → found f kind number s ≡ found_field key code n place stop → 0 < code
 tight_none f s x kind number key code n place stop e =
     let r = tight_reads f s x in
     none_left f s r.site r.gt r.read kind number key code n place stop
     (ap (found f kind number) (tight_ones f s r.site r.gt x r.read) ∙ e)
 
-again : (f : Facts) (s buf : List ℕ) (t : Site) (g : Gt) → reading f s ≡ Accepted t g → Tight f (with_ones t s) → length s ≤ length buf
+again : (f : Facts) (s buf : List ℕ) (t : Site) (g : Gt) → reading f s ≡ accepted_as t g → Tight f (with_ones t s) → length s ≤ length buf
     → Builds f (shown_of t s) buf (with_ones t s)
 again f s buf t g h x room =
     let r = reads_ones f s t g h in

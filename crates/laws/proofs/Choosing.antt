@@ -10,18 +10,15 @@ use borrow.Author.Tests.{lt-ltb, le-ltb}
 use Rattle.words.specs.Pick.{pick}
 use Rattle.words.specs.Words.{Bytes}
 use Rattle.stores.proofs.Inside.{sets_start}
-use Rattle.values.specs.Answers.{refusal}
+use Rattle.values.specs.Answers.{refusal, Answer}
 use Rattle.values.specs.declared.Refusal.{Refusal}
 use Rattle.facts.specs.declared.Facts.{Facts}
 use Rattle.fixed.specs.declared.Site.{Site}
 use Rattle.genotypes.specs.declared.Gt.{Gt}
-use Rattle.record.specs.Reading.{reading}
-use Rattle.record.specs.declared.Reading.{Reading}
-use Rattle.record.specs.declared.Reading.TheVariants.{Accepted, Refused as Unread}
+use Rattle.record.specs.Reading.{reading, accepted_as}
 use Rattle.choice.specs.Choice.{ascending}
 use Rattle.choose.specs.Chosen.{chosen_record}
 use Rattle.choose.specs.Choose.{choosing, answer_of, buffer_of, after_choosing}
-use Rattle.choose.specs.declared.Choosing.TheVariants.{Chosen, Refused}
 use Rattle.choose_laws.specs.Releases.{for_people, released_site}
 use Rattle.choose_laws.specs.Divisions.{Division}
 use Rattle.choose_laws.proofs.Accepted.{release}
@@ -32,10 +29,12 @@ use Rattle.choose_laws.proofs.Divided.{length_divided, tallied_accepted}
 use Rattle.choose_laws.proofs.Everybody.{chosen_record_everybody}
 use Rattle.choose_laws.proofs.Shows.{shown_of_chosen_record}
 use Rattle.choose_laws.proofs.Tallies.{tallied_sum}
+use Rattle.std.specs.Prelude.{Err, Ok}
+use Rattle.record.specs.declared.Reading.{Reading}
 use Rattle.laws.specs.Choosing.{Choice, AddUp, ChoosingPeople}
 
 -- the tallies of the whole record and of its two parts are counted, and the parts' add up
-add_up : (f : Facts) (s : List ℕ) (t : Site) (g : Gt) (cs ds : List ℕ) → Bytes s → reading f s ≡ Accepted t g → t.alleles ≤ 64
+add_up : (f : Facts) (s : List ℕ) (t : Site) (g : Gt) (cs ds : List ℕ) → Bytes s → reading f s ≡ accepted_as t g → t.alleles ≤ 64
     → Division t.people cs ds
     → AddUp f s (for_people (length cs) f) (chosen_record t cs s) (for_people (length ds) f) (chosen_record t ds s)
 add_up f s t g cs ds b h a d =
@@ -68,38 +67,38 @@ buffer_stays f s t g cs buf c r =
     rw (c.read, c.ascends, le-ltb _ _ r, sets_start buf (chosen_record t cs s) r) (drop-append_seam (chosen_record t cs s) _)
 
 -- on a refusal all of them
-refused_stays : (f : Facts) (s cs buf : List ℕ) (r : Refusal) → choosing f cs (length buf) s ≡ Refused r → after_choosing f cs buf s ≡ buf
+refused_stays : (f : Facts) (s cs buf : List ℕ) (r : Refusal) → choosing f cs (length buf) s ≡ Err r → after_choosing f cs buf s ≡ buf
 unfolding after_choosing choosing
 refused_stays f s cs buf r h = by-reading (reading f s) h
   where
-    by_answer : (a b : Bool) (n : ℕ) (after : List ℕ) → pick a (pick b (Refused (refusal 13 0)) (Chosen n)) (Refused (refusal 14 0)) ≡ Refused r
+    by_answer : (a b : Bool) (n : ℕ) (after : List ℕ) → pick a (pick b (Err (refusal 13 0)) (Ok n)) (Err (refusal 14 0)) ≡ Err r
         → pick a (pick b buf after) buf ≡ buf
     by_answer true true n after e = refl
     by_answer true false n after e = cc
     by_answer false b n after e = refl
 
-    by-reading : (x : Reading) → answer_of cs (length buf) s x ≡ Refused r → buffer_of cs buf s x ≡ buf
-    by-reading (Unread q) e = refl
-    by-reading (Accepted t g) e =
-        by_answer (ascending t.people cs) (ltb (length buf) (length (chosen_record t cs s))) (length (chosen_record t cs s)) _ e
+    by-reading : (x : Answer Reading) → answer_of cs (length buf) s x ≡ Err r → buffer_of cs buf s x ≡ buf
+    by-reading (Err q) e = refl
+    by-reading (Ok a) e =
+        by_answer (ascending a.site.people cs) (ltb (length buf) (length (chosen_record a.site cs s))) (length (chosen_record a.site cs s)) _ e
 
 -- what is answered
-answers_unread : (f : Facts) (s cs : List ℕ) (room : ℕ) (r : Refusal) → reading f s ≡ Unread r → choosing f cs room s ≡ Refused r
+answers_unread : (f : Facts) (s cs : List ℕ) (room : ℕ) (r : Refusal) → reading f s ≡ Err r → choosing f cs room s ≡ Err r
 unfolding choosing
 answers_unread f s cs room r h = rw h
 
-answers_wrong : (f : Facts) (s : List ℕ) (t : Site) (g : Gt) (cs : List ℕ) (room : ℕ) → reading f s ≡ Accepted t g
-    → ascending t.people cs ≡ false → choosing f cs room s ≡ Refused (refusal 14 0)
+answers_wrong : (f : Facts) (s : List ℕ) (t : Site) (g : Gt) (cs : List ℕ) (room : ℕ) → reading f s ≡ accepted_as t g
+    → ascending t.people cs ≡ false → choosing f cs room s ≡ Err (refusal 14 0)
 unfolding choosing
 answers_wrong f s t g cs room h a = rw (h, a)
 
 answers_short : (f : Facts) (s : List ℕ) (t : Site) (g : Gt) (cs : List ℕ) (room : ℕ) → Choice f s t g cs → room < length (chosen_record t cs s)
-    → choosing f cs room s ≡ Refused (refusal 13 0)
+    → choosing f cs room s ≡ Err (refusal 13 0)
 unfolding choosing
 answers_short f s t g cs room c r = rw (c.read, c.ascends, lt-ltb _ _ r)
 
 answers_chosen : (f : Facts) (s : List ℕ) (t : Site) (g : Gt) (cs : List ℕ) (room : ℕ) → Choice f s t g cs → length (chosen_record t cs s) ≤ room
-    → choosing f cs room s ≡ Chosen (length (chosen_record t cs s))
+    → choosing f cs room s ≡ Ok (length (chosen_record t cs s))
 unfolding choosing
 answers_chosen f s t g cs room c r = rw (c.read, c.ascends, le-ltb _ _ r)
 

@@ -7,15 +7,14 @@ use Rattle.words.specs.Words.{Bytes}
 use Rattle.facts.specs.declared.Facts.{Facts}
 use Rattle.fixed.specs.declared.Site.{Site}
 use Rattle.genotypes.specs.declared.Gt.{Gt}
-use Rattle.record.specs.Reading.{reading}
-use Rattle.record.specs.declared.Reading.TheVariants.{Accepted}
+use Rattle.record.specs.Reading.{reading, accepted_as}
 use Rattle.choose_laws.proofs.Divided.{tallied_accepted}
 use Rattle.tally_laws.proofs.Gt.{accepted_gt_sound}
 use Rattle.tally_laws.proofs.Slots.{slots_people, tally_slots, tally_with}
 use Rattle.tally_laws.proofs.Calls.{tally_says}
 use Rattle.laws.specs.Tallying.{Tally, Tallying}
 
-tally : (f : Facts) (s : List ℕ) (t : Site) (g : Gt) → Bytes s → reading f s ≡ Accepted t g → t.alleles ≤ 64 → Tally f s t g
+tally : (f : Facts) (s : List ℕ) (t : Site) (g : Gt) → Bytes s → reading f s ≡ accepted_as t g → t.alleles ≤ 64 → Tally f s t g
 tally f s t g b h a =
     let e = tallied_accepted f s t g h a in
     let k = accepted_gt_sound f s t g b h in

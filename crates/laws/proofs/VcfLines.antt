@@ -19,17 +19,15 @@ use Rattle.values.specs.declared.Refusal.{Refusal}
 use Rattle.facts.specs.declared.Facts.{Facts}
 use Rattle.fixed.specs.declared.Site.{Site}
 use Rattle.genotypes.specs.declared.Gt.{Gt}
-use Rattle.record.specs.Reading.{reading}
-use Rattle.record.specs.declared.Reading.TheVariants.{Accepted, Refused as Unread}
+use Rattle.record.specs.Reading.{reading, accepted_as}
 use Rattle.contents.specs.Contents.{shown_of}
 use Rattle.names.specs.Names.{name_of}
 use Rattle.names.proofs.Names.{zero_free}
 use Rattle.vcf_qual.specs.Qual.{whole_of, missing_qual, printable, qual_text}
-use Rattle.vcf_qual.specs.declared.Whole.TheVariants.{Number, Other}
+use Rattle.std.specs.Prelude.{Some, None, Err, Ok}
 use Rattle.vcf_qual.proofs.Bits.{whole_bits, bits_whole, two_zeros, number_small}
 use Rattle.vcf_qual.proofs.Text.{text_number, Printed, missing, number, printed as printed-qual, qual_alike}
 use Rattle.vcf_line.specs.Line.{vcf_line, Names, is_short, line, unprinted, printed, answer_for, line_answer, after_line}
-use Rattle.vcf_line.specs.declared.Line.TheVariants.{Written, Refused}
 use Rattle.vcf_laws.specs.Lines.{Without, names_of, stretches_of}
 use Rattle.vcf_laws.proofs.Apart.{apart, distinct_names, told_apart}
 use Rattle.vcf_laws.proofs.Chosen.{chosen_line}
@@ -49,34 +47,34 @@ unfolding name_of
 name_whole names i = zero_free (stretches_of names i)
 
 -- what is answered
-answers_unread : (f : Facts) (strings contigs : Names) (s : List ℕ) (room : ℕ) (r : Refusal) → reading f s ≡ Unread r
-    → line_answer f strings contigs room s ≡ Refused r
+answers_unread : (f : Facts) (strings contigs : Names) (s : List ℕ) (room : ℕ) (r : Refusal) → reading f s ≡ Err r
+    → line_answer f strings contigs room s ≡ Err r
 unfolding line_answer printed
 answers_unread f strings contigs s room r h = rw h
 
-answers_qual : (f : Facts) (strings contigs : Names) (s : List ℕ) (t : Site) (g : Gt) (room : ℕ) → reading f s ≡ Accepted t g
-    → printable t.qual ≡ false → line_answer f strings contigs room s ≡ Refused (refusal 17 0)
+answers_qual : (f : Facts) (strings contigs : Names) (s : List ℕ) (t : Site) (g : Gt) (room : ℕ) → reading f s ≡ accepted_as t g
+    → printable t.qual ≡ false → line_answer f strings contigs room s ≡ Err (refusal 17 0)
 unfolding line_answer printed
 answers_qual f strings contigs s t g room h q = rw (h, q)
 
 -- where the list of strings is too short, and where that of contigs is, whatever the other
 answers_names : (f : Facts) (strings contigs : Names) (s : List ℕ) (t : Site) (g : Gt) (room : ℕ) → Ready f s t g
-    → (length strings.ends < f.strings) ⊎ (length contigs.ends < f.contigs) → line_answer f strings contigs room s ≡ Refused (refusal 18 0)
+    → (length strings.ends < f.strings) ⊎ (length contigs.ends < f.contigs) → line_answer f strings contigs room s ≡ Err (refusal 18 0)
 unfolding line_answer printed
 answers_names f strings contigs s t g room h (inl n) = rw (h.read, h.qual, lt-ltb _ _ n)
 answers_names f strings contigs s t g room h (inr n) = rw (h.read, h.qual, lt-ltb _ _ n) (by-test (is_short f.strings strings))
   where
-    by-test : (b : Bool) → answer_for room (pick b (unprinted (refusal 18 0)) (unprinted (refusal 18 0))) ≡ Refused (refusal 18 0)
+    by-test : (b : Bool) → answer_for room (pick b (unprinted (refusal 18 0)) (unprinted (refusal 18 0))) ≡ Err (refusal 18 0)
     by-test true = refl
     by-test false = refl
 
 answers_short : (f : Facts) (strings contigs : Names) (s l : List ℕ) (room : ℕ) → printed f strings contigs s ≡ line l → room < length l
-    → line_answer f strings contigs room s ≡ Refused (refusal 13 0)
+    → line_answer f strings contigs room s ≡ Err (refusal 13 0)
 unfolding line_answer
 answers_short f strings contigs s l room h r = rw (h, lt-ltb _ _ r)
 
 answers_written : (f : Facts) (strings contigs : Names) (s l : List ℕ) (room : ℕ) → printed f strings contigs s ≡ line l → length l ≤ room
-    → line_answer f strings contigs room s ≡ Written (length l)
+    → line_answer f strings contigs room s ≡ Ok (length l)
 unfolding line_answer
 answers_written f strings contigs s l room h r = rw (h, le-ltb _ _ r)
 
@@ -94,9 +92,9 @@ buffer_stays f strings contigs s l buf h r =
     rw (h, filled_room buf 0 l (rw zero-add r), sets_start buf l r) (drop-append_seam l _)
 
 -- QUAL: a number is not the missing mark, which is taken for none
-not_missing : (q n : ℕ) → whole_of q ≡ Number n → q ≡ missing_qual → ⊥
+not_missing : (q n : ℕ) → whole_of q ≡ Some n → q ≡ missing_qual → ⊥
 not_missing q n h e =
-    let m : whole_of missing_qual ≡ Other = unfold whole_of in refl in
+    let m : whole_of missing_qual ≡ None = unfold whole_of in refl in
     let z : ◌≡◌ {A = ℕ} 0 1 = cc in
     omega arith
 
@@ -118,7 +116,7 @@ qual_no_other q l h = by-text (printed-qual q h)
     by-zeros (inl z) = inr (inr (record { number = 0; most = omega arith; bits = z ∙ zero_bits }))
     by-zeros (inr z) = inr (inl z)
 
-    by_number : (n : ℕ) → whole_of q ≡ Number n → (q ≡ missing_qual) ⊎ ((q ≡ 0x80000000) ⊎ WholeFloat q)
+    by_number : (n : ℕ) → whole_of q ≡ Some n → (q ≡ missing_qual) ⊎ ((q ≡ 0x80000000) ⊎ WholeFloat q)
     by_number zero e = by-zeros (two_zeros q l e)
     by_number (suc n) e = inr (inr (record { number = suc n; most = number_small q (suc n) e; bits = bits_whole q (suc n) e (omega arith) }))
 

@@ -2,7 +2,7 @@
 -- afterwards, and a definition of what it was given; so two answers that meet it are equal. `tools/promises` reads every public contract and fails the
 -- gate where it is not of one of the shapes below. And what is told to other languages in numbers can be read from them, so that a record that was read
 -- once is fetched from without reading it again. Rests on c_answers and c_state for what is told.
-use Rattle.std.specs.Prelude.{ℕ, ◌/◌, ◌%◌, ◌<◌, ◌≡◌, List, ◌++◌, length}
+use Rattle.std.specs.Prelude.{ℕ, ◌/◌, ◌%◌, ◌<◌, ◌≡◌, List, ◌++◌, length, Err, None, Ok}
 use Rattle.std.specs.Borrow.{Bor}
 use Rattle.std.specs.Int.{w32}
 use Rattle.std.proofs.Common.{SFits}
@@ -12,17 +12,13 @@ use Rattle.values.specs.declared.Refusal.{Refusal}
 use Rattle.facts.specs.declared.Facts.{Facts}
 use Rattle.fixed.specs.declared.Site.{Site}
 use Rattle.genotypes.specs.declared.Gt.{Gt}
-use Rattle.record.specs.Reading.{reading_says, reading}
-use Rattle.record.specs.declared.Reading.TheVariants.{Accepted}
-use Rattle.fetch.specs.Fields.{found_says}
+use Rattle.record.specs.Reading.{reading_says, reading, accepted_as}
+use Rattle.fetch.specs.Fields.{found_says, found_field}
 use Rattle.fetch.specs.Fetch.{field_of, found}
 use Rattle.fetch.specs.declared.Kind.{Kind}
-use Rattle.fetch.specs.declared.Found.TheVariants.{Field, Refused as NoField}
-use Rattle.walker.specs.Walk.{pair_says}
-use Rattle.walker.specs.declared.Pair.TheVariants.{Found as Whole, End}
+use Rattle.walker.specs.Walk.{pair_says, found_pair}
 use Rattle.calls.specs.declared.Calls.{Calls}
 use Rattle.tally.specs.Tally.{counting_says}
-use Rattle.tally.specs.declared.Counting.TheVariants.{Counted}
 use Rattle.build.specs.Turns.{fresh_state}
 use Rattle.build.specs.declared.Builder.{Builder}
 use Rattle.c_answers.specs.Told.{answer, refused_answer, pair_answer, site_numbers, field_numbers, tally_numbers, site_told}
@@ -63,20 +59,20 @@ pub record Answers : Type 1 where
   pub low : (n low : ℕ) → low < 4294967296 → answer n low % 4294967296 ≡ low
   -- what is told in numbers is what the answer says: of a refusal its number and place, else the values that it holds; at a walk's end 16
   pub refusal_said : (r : Refusal) → refused_answer r ≡ answer (refuses r).number (refuses r).place
-  pub end_said : (room : ℕ) → pair_answer room End ≡ refused_answer (refusal_in (pair_says End))
-  pub reading_said : (t : Site) (g : Gt) → site_numbers t g ≡ (reading_says (Accepted t g)).values
-  pub field_said : (key t n place stop : ℕ) → field_numbers key t n place stop ≡ (found_says (Field key t n place stop)).values
-  pub pair_said : (key t n place next : ℕ) → field_numbers key t n place next ≡ (pair_says (Whole key t n place next)).values
-  pub tally_said : (t : Site) (k : Calls) → tally_numbers t k ≡ (counting_says k (Counted t)).values
+  pub end_said : (room : ℕ) → pair_answer room None ≡ refused_answer (refusal_in (pair_says None))
+  pub reading_said : (t : Site) (g : Gt) → site_numbers t g ≡ (reading_says (accepted_as t g)).values
+  pub field_said : (key t n place stop : ℕ) → field_numbers key t n place stop ≡ (found_says (found_field key t n place stop)).values
+  pub pair_said : (key t n place next : ℕ) → field_numbers key t n place next ≡ (pair_says (found_pair key t n place next)).values
+  pub tally_said : (t : Site) (k : Calls) → tally_numbers t k ≡ (counting_says k (Ok t)).values
   -- the numbers of a state hold that state, whatever stands behind them; a fresh one is in its ranges
   pub fresh : Ranges fresh_state
   pub state : (st : Builder) (rest : List ℕ) → Ranges st → state_of (state_numbers st ++ rest) ≡ st
   -- the numbers that reading tells hold its site, whatever stands behind them; an accepted record's is in its ranges
   pub site : (t : Site) (g : Gt) (rest : List ℕ) → SiteRanges t → site_told (site_numbers t g ++ rest) ≡ t
-  pub ranges : (f : Facts) (s : List ℕ) (t : Site) (g : Gt) → Bytes s → reading f s ≡ Accepted t g → SiteRanges t
+  pub ranges : (f : Facts) (s : List ℕ) (t : Site) (g : Gt) → Bytes s → reading f s ≡ accepted_as t g → SiteRanges t
   -- so by those numbers a record gives the fields that fetching gives
   pub again : (f : Facts) (s : List ℕ) (t : Site) (g : Gt) (rest : List ℕ) (kind : Kind) (number : ℕ) → Bytes s
-      → reading f s ≡ Accepted t g → field_of kind number (site_told (site_numbers t g ++ rest)) s ≡ found f kind number s
+      → reading f s ≡ accepted_as t g → field_of kind number (site_told (site_numbers t g ++ rest)) s ≡ found f kind number s
   -- in fewer than 13 numbers there is no field, not even ID or FILTER
   pub few : (ns s : List ℕ) (kind : Kind) (number : ℕ) → length ns < 13
-      → field_of kind number (site_told ns) s ≡ NoField (refusal 16 0)
+      → field_of kind number (site_told ns) s ≡ Err (refusal 16 0)

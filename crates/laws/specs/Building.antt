@@ -6,9 +6,8 @@ use Rattle.types.specs.Elements.{kind, narrowest}
 use Rattle.facts.specs.declared.Facts.{Facts}
 use Rattle.fixed.specs.declared.Site.{Site}
 use Rattle.genotypes.specs.declared.Gt.{Gt}
-use Rattle.record.specs.Reading.{reading}
+use Rattle.record.specs.Reading.{reading, accepted_as}
 use Rattle.shown.specs.Shown.{Kind, Shown}
-use Rattle.record.specs.declared.Reading.TheVariants.{Accepted}
 use Rattle.contents.specs.Contents.{shown_of}
 use Rattle.encode.specs.Encode.{type_for}
 use Rattle.shown.specs.Values.{written_as}
@@ -39,7 +38,7 @@ pub record Building : Type 0 where
   pub tight : (f : Facts) (xs : List Turn) (buf : List ℕ) (b : Finished f xs buf) → All FitTurn xs → Tight f (wrote b)
   pub tight_keeps : (f : Facts) (r : Shown) → Keeps f r → Tight f (record_bytes f.people r)
   pub tight_accepted : (f : Facts) (s : List ℕ) (x : Tight f s) → ReadsBack f x.turns s (length s)
-  pub tight_again : (f : Facts) (s buf : List ℕ) (t : Site) (g : Gt) → Tight f s → reading f s ≡ Accepted t g → length s ≤ length buf
+  pub tight_again : (f : Facts) (s buf : List ℕ) (t : Site) (g : Gt) → Tight f s → reading f s ≡ accepted_as t g → length s ≤ length buf
       → Builds f (shown_of t s) buf s
   -- which numbers take which type: −120 to 127 type 1, −32760 to 32767 at most type 2, all others type 3
   pub one : (x : ℕ) → leb (narrowest x) 1 ≡ between 120 127 x

@@ -1,6 +1,6 @@
 -- 01's marked examples, M1 to M12, one statement with the fields of each; a value is one as reading judges it (`sound`), at place 0 of its block. Rests
 -- on the definitions of types, values and vectors, and on the sample record.
-use Rattle.std.specs.Prelude.{◌≡◌, true, List, [], ◌∷◌, ℕ, pos, negsuc, take, drop}
+use Rattle.std.specs.Prelude.{◌≡◌, Some, true, List, [], ◌∷◌, ℕ, pos, negsuc, take, drop}
 use Rattle.std.specs.Int.{w32}
 use Rattle.std.proofs.Common.{of_z}
 use Rattle.types.specs.Elements.{narrowest}
@@ -42,13 +42,13 @@ pub record Marked : Type 0 where
   pub m7_below : narrowest (of_z w32 (negsuc 32760)) ≡ 3
   pub m7_above : narrowest (of_z w32 (pos 32768)) ≡ 3
   -- M8 type 1: `80` shows −2147483648, `82` gives 9
-  pub m8_shown : element_at 1 0 (0x80 ∷ []) ≡ Integer (negsuc 2147483647)
+  pub m8_shown : element_at 1 0 (0x80 ∷ []) ≡ Some (Integer (negsuc 2147483647))
   pub m8_refused : sound 1 0 Info 0 (0x11 ∷ 0x82 ∷ []) ≡ no_value 9 1
   -- M9 `31 05 81 81` is accepted; `31 05 81 06` gives 9 at its last byte
   pub m9_accepted : (rest : List ℕ) → sound 1 0 Info 0 (0x31 ∷ 0x05 ∷ 0x81 ∷ 0x81 ∷ rest) ≡ whole 1 3 1 4
   pub m9_refused : (rest : List ℕ) → sound 1 0 Info 0 (0x31 ∷ 0x05 ∷ 0x81 ∷ 0x06 ∷ rest) ≡ no_value 9 3
   -- M10 two alleles, GT of one person and type 1: `05` is accepted, and says allele 1, phased; `06` and `FF` give 10 at the element
-  pub m10_call : call_at 1 0 (0x05 ∷ []) ≡ Allele 1 true
+  pub m10_call : call_at 1 0 (0x05 ∷ []) ≡ Some (Allele 1 true)
   pub m10_accepted : (rest : List ℕ) → sound 1 2 Gt 0 (0x11 ∷ 0x05 ∷ rest) ≡ whole 1 1 1 2
   pub m10_high : (rest : List ℕ) → sound 1 2 Gt 0 (0x11 ∷ 0x06 ∷ rest) ≡ no_value 10 1
   pub m10_negative : (rest : List ℕ) → sound 1 2 Gt 0 (0x11 ∷ 0xFF ∷ rest) ≡ no_value 10 1

@@ -1,24 +1,20 @@
 -- Each number of each function's list is given: the sample record spoilt, and turns that are refused, one for each number in its order. So no list of
 -- specs/Refusals is longer than it has to be. Rests on specs/Sample, and on refusal_laws for the lists.
-use Rattle.std.specs.Prelude.{ℕ, ◌≡◌, take, set, replicate}
+use Rattle.build.specs.Answers.{Taken}
+use Rattle.std.specs.Prelude.{ℕ, ◌≡◌, take, set, replicate, Err}
 use mathlib.Core.List.{List, [], ◌∷◌, ◌++◌, map, flatten}
-use Rattle.values.specs.Answers.{refusal}
+use Rattle.values.specs.Answers.{refusal, Answer}
 use Rattle.shown.specs.Shown.{integers, text}
 use Rattle.record.specs.Reading.{reading_says, reading}
 use Rattle.fetch.specs.Fetch.{found}
 use Rattle.fetch.specs.declared.Kind.TheVariants.{Info}
-use Rattle.fetch.specs.declared.Found.TheVariants.{Refused as NoField}
 use Rattle.tally.specs.Tally.{tallied}
-use Rattle.tally.specs.declared.Counting.TheVariants.{Refused as Uncounted}
 use Rattle.choose.specs.Choose.{choosing}
-use Rattle.choose.specs.declared.Choosing.TheVariants.{Refused as Unchosen}
 use Rattle.vcf_line.specs.Line.{Names, names_in, line_says, line_answer}
 use Rattle.build.specs.Turns.{begun, id_given, allele_given, filter_given, info_given, format_given, built}
 use Rattle.build.specs.declared.Stage.{Stage}
 use Rattle.build.specs.declared.Stage.TheVariants.{Fresh, Begun, Named, Alleles, Filtered, Ended}
 use Rattle.build.specs.declared.Builder.{Builder}
-use Rattle.build.specs.declared.Answer.{Answer}
-use Rattle.build.specs.declared.Answer.TheVariants.{Taken, Refused}
 use Rattle.build.specs.declared.Turned.{Turned}
 use Rattle.refusal_laws.specs.Numbers.{reading_gives, line_gives, begin_gives, id_gives, allele_gives, filter_gives, info_gives, format_gives, end_gives}
 use Rattle.laws.specs.Sample.{facts, sample_front, sample}
@@ -69,19 +65,19 @@ abbrev pub full_after : Stage → Builder
 full_after stage = reached stage 16777216 2 0 0
 
 -- the number of a turn's answer, 0 where it is taken
-abbrev pub turn_number : Answer → ℕ
+abbrev pub turn_number : Answer (Unit {0}) → ℕ
 turn_number Taken = 0
-turn_number (Refused r) = r.number
+turn_number (Err r) = r.number
 
 abbrev pub numbers_of : List Turned → List ℕ
 numbers_of ts = map (λ t. turn_number t.answer) ts
 
 pub record RefusalSample : Type 0 where
   pub reads : map (λ s. (reading_says (reading facts s)).number) spoilt ≡ reading_gives
-  pub fetches : found facts Info 1 sample ≡ NoField (refusal 16 0)
-  pub tallies : (tallied facts many_alleles).answer ≡ Uncounted (refusal 15 0)
-  pub chooses : choosing facts (1 ∷ 0 ∷ []) 50 sample ≡ Unchosen (refusal 14 0)
-  pub chooses_short : choosing facts (0 ∷ []) 47 sample ≡ Unchosen (refusal 13 0)
+  pub fetches : found facts Info 1 sample ≡ Err (refusal 16 0)
+  pub tallies : (tallied facts many_alleles).answer ≡ Err (refusal 15 0)
+  pub chooses : choosing facts (1 ∷ 0 ∷ []) 50 sample ≡ Err (refusal 14 0)
+  pub chooses_short : choosing facts (0 ∷ []) 47 sample ≡ Err (refusal 13 0)
   -- QUAL below 1 and no name; no name of a contig; a buffer that is a byte too short
   pub prints
       : map (λ x. (line_says x).number)

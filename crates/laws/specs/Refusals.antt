@@ -1,7 +1,7 @@
 -- Demand 1: every refusal has a number that 01, or for a VCF line 02, lists for its function, at place 0 or at a place of the record, and a refused call
 -- leaves what was lent as it was. Rests on refusal_laws for the numbers of each function and for what is said of a refusal, and on the definitions of
 -- each answer.
-use Rattle.std.specs.Prelude.{ℕ, ◌≡◌, List, [], ◌++◌, true, eqb, length}
+use Rattle.std.specs.Prelude.{ℕ, ◌≡◌, List, [], ◌++◌, true, eqb, length, Err}
 use Rattle.words.specs.Lists.{among}
 use Rattle.words.specs.Pick.{pick}
 use Rattle.values.specs.declared.Refusal.{Refusal}
@@ -9,19 +9,13 @@ use Rattle.facts.specs.declared.Facts.{Facts}
 use Rattle.fixed.specs.declared.Site.{Site}
 use Rattle.shown.specs.Shown.{Kind as Sort, text}
 use Rattle.record.specs.Reading.{reading}
-use Rattle.record.specs.declared.Reading.TheVariants.{Refused as Unread}
 use Rattle.fetch.specs.Fetch.{field_of, found, fetched}
 use Rattle.fetch.specs.declared.Kind.{Kind}
-use Rattle.fetch.specs.declared.Found.TheVariants.{Refused as NoField}
 use Rattle.elements.specs.Elements.{element_at}
 use Rattle.walker.specs.Walk.{opened, pair_at}
-use Rattle.walker.specs.declared.Opening.TheVariants.{Refused as Unopened}
 use Rattle.tally.specs.Tally.{nobody, tallied}
-use Rattle.tally.specs.declared.Counting.TheVariants.{Refused as Uncounted}
 use Rattle.choose.specs.Choose.{choosing, after_choosing}
-use Rattle.choose.specs.declared.Choosing.TheVariants.{Refused as Unchosen}
 use Rattle.vcf_line.specs.Line.{Names, line_answer, after_line}
-use Rattle.vcf_line.specs.declared.Line.TheVariants.{Refused as Unlined}
 use Rattle.build.specs.Order.{turned}
 use Rattle.build.specs.Turns.{begun, after_begin, id_given, after_id, allele_given, after_allele, filter_given, after_filter, info_given, after_info, format_given, after_format, built, after_end}
 use Rattle.build.specs.declared.Builder.{Builder}
@@ -37,21 +31,21 @@ pub record Refusals : Type 0 where
   -- the numbers of all functions together are 01's table, with 17 and 18 of Req 04
   pub numbers : (n : ℕ) → (among n all_give ≡ true → among n table ≡ true) × (among n table ≡ true → among n all_give ≡ true)
   -- reading: 1 to 11, at place 0 or at a place of the record, which is lent so far
-  pub reads : (f : Facts) (s : List ℕ) (r : Refusal) → reading f s ≡ Unread r → InRecord reading_gives s r
+  pub reads : (f : Facts) (s : List ℕ) (r : Refusal) → reading f s ≡ Err r → InRecord reading_gives s r
   -- fetching: reading's, or then 16 at place 0; and an empty part. Of a record that was read, 16 alone
-  pub fetches : (f : Facts) (kind : Kind) (n : ℕ) (s : List ℕ) (r : Refusal) → found f kind n s ≡ NoField r
+  pub fetches : (f : Facts) (kind : Kind) (n : ℕ) (s : List ℕ) (r : Refusal) → found f kind n s ≡ Err r
       → AfterReading fetching_gives f s r × (fetched f kind n s ≡ [])
-  pub fetches_again : (kind : Kind) (n : ℕ) (t : Site) (s : List ℕ) (r : Refusal) → field_of kind n t s ≡ NoField r → AtStart fetching_gives r
+  pub fetches_again : (kind : Kind) (n : ℕ) (t : Site) (s : List ℕ) (r : Refusal) → field_of kind n t s ≡ Err r → AtStart fetching_gives r
   -- opening the walk: reading's
-  pub opens : (f : Facts) (s : List ℕ) (r : Refusal) → opened f s ≡ Unopened r → reading f s ≡ Unread r
+  pub opens : (f : Facts) (s : List ℕ) (r : Refusal) → opened f s ≡ Err r → reading f s ≡ Err r
   -- the tally: reading's, or then 15 at place 0; and every counter 0
-  pub tallies : (f : Facts) (s : List ℕ) (r : Refusal) → (tallied f s).answer ≡ Uncounted r
+  pub tallies : (f : Facts) (s : List ℕ) (r : Refusal) → (tallied f s).answer ≡ Err r
       → AfterReading tally_gives f s r × ((tallied f s).calls ≡ nobody 0)
   -- choosing: reading's, or then 14 or 13 at place 0; and the buffer as it was
-  pub chooses : (f : Facts) (cs buf s : List ℕ) (r : Refusal) → choosing f cs (length buf) s ≡ Unchosen r
+  pub chooses : (f : Facts) (cs buf s : List ℕ) (r : Refusal) → choosing f cs (length buf) s ≡ Err r
       → AfterReading choosing_gives f s r × (after_choosing f cs buf s ≡ buf)
   -- a VCF line: reading's, or then 17, 18 or 13 at place 0; and the buffer as it was
-  pub prints : (f : Facts) (strings contigs : Names) (buf s : List ℕ) (r : Refusal) → line_answer f strings contigs (length buf) s ≡ Unlined r
+  pub prints : (f : Facts) (strings contigs : Names) (buf s : List ℕ) (r : Refusal) → line_answer f strings contigs (length buf) s ≡ Err r
       → AfterReading line_gives f s r × (after_line f strings contigs buf s ≡ buf)
   -- a turn of building is made of one number
   pub turns : (st next : Builder) (n : ℕ) (buf new : List ℕ) → MadeOf n st next buf new (turned st n next) (pick (eqb n 0) new buf)

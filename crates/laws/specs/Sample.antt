@@ -1,16 +1,14 @@
 -- 01's sample record, the input of the line program's example: how it is read, what it
 -- shows, its tally, the line that the program prints of it, and its VCF line. Rests on the definitions of record, tally, frames and vcf_line.
-use Rattle.std.specs.Prelude.{◌≡◌, List, [], ◌∷◌, ◌++◌, ℕ, replicate}
+use Rattle.std.specs.Prelude.{◌≡◌, List, [], ◌∷◌, ◌++◌, ℕ, replicate, Ok}
 use Rattle.facts.specs.declared.Facts.{Facts}
 use Rattle.positions.specs.Positions.{pos_of}
 use Rattle.fixed.specs.declared.Site.{Site}
 use Rattle.genotypes.specs.Formats.{gt_at}
-use Rattle.record.specs.Reading.{reading}
+use Rattle.record.specs.Reading.{reading, accepted_as}
 use Rattle.shown.specs.Shown.{Shown, Pair, Field, integers}
-use Rattle.record.specs.declared.Reading.TheVariants.{Accepted}
 use Rattle.contents.specs.Contents.{shown_of}
 use Rattle.tally.specs.Tally.{tallied}
-use Rattle.tally.specs.declared.Counting.TheVariants.{Counted}
 use Rattle.frames.specs.Frames.{record_line}
 use Rattle.shown.specs.Records.{record_bytes}
 use Rattle.build_laws.specs.Builds.{Tight}
@@ -82,13 +80,13 @@ sample_contigs = names_in (0x32 ∷ 0x30 ∷ []) (2 ∷ [])
 
 pub record Sample : Type 0 where
   -- accepted: 50 bytes, two alleles, one INFO pair, one FORMAT field, two people; GT is of type 1, two slots a person, from byte 46 on
-  pub read : reading facts sample ≡ Accepted sample_site (gt_at 1 2 46)
+  pub read : reading facts sample ≡ accepted_as sample_site (gt_at 1 2 46)
   pub shows : shown_of sample_site sample ≡ sample_shown
   -- built from what it shows it is the same bytes, and so it is tight
   pub built : record_bytes facts.people sample_shown ≡ sample
   pub tight : Tight facts sample
   -- tallied: nobody without a genotype, no missing allele, two calls of allele 0 and one of allele 1; the padding is no call
-  pub tally : tallied facts sample ≡ record { answer = Counted sample_site; calls = record { without = 0; counts = 0 ∷ 2 ∷ 1 ∷ replicate 62 0 } }
+  pub tally : tallied facts sample ≡ record { answer = Ok sample_site; calls = record { without = 0; counts = 0 ∷ 2 ∷ 1 ∷ replicate 62 0 } }
   -- and so the line program says `ok 50 2 1 1 2 0 0 2 1`
   pub line : record_line facts sample
       ≡ 0x6F ∷ 0x6B ∷ 0x20 ∷ 0x35 ∷ 0x30 ∷ 0x20 ∷ 0x32 ∷ 0x20 ∷ 0x31 ∷ 0x20 ∷ 0x31 ∷ 0x20 ∷ 0x32 ∷ 0x20 ∷ 0x30 ∷ 0x20 ∷ 0x30 ∷ 0x20 ∷ 0x32 ∷ 0x20 ∷ 0x31 ∷ 0x0A ∷ []

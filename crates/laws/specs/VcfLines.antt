@@ -1,7 +1,7 @@
 -- Req 04: VCF lines out. What a record's line is and what is answered; that alike lines are of records with the same contig, POS, ID text and alleles; QUAL's
 -- digits; the tabs and the line feed; and the line of a chosen record. Rests on vcf_line for the line, on vcf_laws for what is asked of texts and names, and
 -- on vcf_qual for QUAL.
-use Rattle.std.specs.Prelude.{ℕ, ◌+◌, ◌-◌, ◌%◌, ◌<◌, ◌≤◌, ◌≡◌, ◌⊎◌, List, true, false, pos, length, get_or, take, drop}
+use Rattle.std.specs.Prelude.{ℕ, ◌+◌, ◌-◌, ◌%◌, ◌<◌, ◌≤◌, ◌≡◌, ◌⊎◌, List, true, false, pos, length, get_or, take, drop, Err, Ok}
 use Rattle.std.specs.Float.{binary32}
 use Rattle.std.specs.Float.Ieee.{of_int, to_bits}
 use Rattle.words.specs.Pick.{pick}
@@ -13,14 +13,12 @@ use Rattle.values.specs.declared.Refusal.{Refusal}
 use Rattle.facts.specs.declared.Facts.{Facts}
 use Rattle.fixed.specs.declared.Site.{Site}
 use Rattle.genotypes.specs.declared.Gt.{Gt}
-use Rattle.record.specs.Reading.{reading}
-use Rattle.record.specs.declared.Reading.TheVariants.{Accepted, Refused as Unread}
+use Rattle.record.specs.Reading.{reading, accepted_as}
 use Rattle.contents.specs.Contents.{shown_of}
 use Rattle.calls.specs.Calls.{how_many}
 use Rattle.vcf_qual.specs.Qual.{whole_of, missing_qual, printable, qual_text}
-use Rattle.vcf_qual.specs.declared.Whole.TheVariants.{Number}
+use Rattle.std.specs.Prelude.{Some, Err, Ok}
 use Rattle.vcf_line.specs.Line.{vcf_line, Names, line, printed, line_answer, after_line}
-use Rattle.vcf_line.specs.declared.Line.TheVariants.{Written, Refused}
 use Rattle.vcf_laws.specs.Columns.{ChosenLine}
 use Rattle.vcf_laws.specs.Conditions.{Condition, Holds, Needed}
 use Rattle.vcf_laws.specs.Lines.{Without, names_of, stretches_of, EachWithout, Distinct, Clear, Same, TextsWithout, has_gt}
@@ -28,13 +26,13 @@ use Rattle.laws.specs.Choosing.{Choice}
 
 -- bytes that begin with a record that is accepted, and whose QUAL can be printed
 pub record Ready (f : Facts) (s : List ℕ) (t : Site) (g : Gt) : Type 0 where
-  pub read : reading f s ≡ Accepted t g
+  pub read : reading f s ≡ accepted_as t g
   pub qual : printable t.qual ≡ true
 
 -- bytes that begin with a record that is accepted, and the line that it prints as
 pub record Prints (f : Facts) (strings contigs : Names) (s : List ℕ) (t : Site) (g : Gt) (l : List ℕ) : Type 0 where
   pub bytes : Bytes s
-  pub read : reading f s ≡ Accepted t g
+  pub read : reading f s ≡ accepted_as t g
   pub prints : printed f strings contigs s ≡ line l
 
 -- the bits of a whole number as a float of 32 bits, by the language's own arithmetic
@@ -57,22 +55,22 @@ pub record VcfLines : Type 0 where
   pub name : (names : Names) (i : ℕ) → Without 0 (names_of names i)
   -- what the function answers: reading's refusal; else 17 for a QUAL that cannot be printed, whatever the names; else 18 for a list of names that is shorter
   -- than its dictionary, each whatever the buffer; else 13 for a buffer that is shorter than the line; else the line's length
-  pub unread : (f : Facts) (strings contigs : Names) (s : List ℕ) (room : ℕ) (r : Refusal) → reading f s ≡ Unread r
-      → line_answer f strings contigs room s ≡ Refused r
-  pub qual : (f : Facts) (strings contigs : Names) (s : List ℕ) (t : Site) (g : Gt) (room : ℕ) → reading f s ≡ Accepted t g
-      → printable t.qual ≡ false → line_answer f strings contigs room s ≡ Refused (refusal 17 0)
+  pub unread : (f : Facts) (strings contigs : Names) (s : List ℕ) (room : ℕ) (r : Refusal) → reading f s ≡ Err r
+      → line_answer f strings contigs room s ≡ Err r
+  pub qual : (f : Facts) (strings contigs : Names) (s : List ℕ) (t : Site) (g : Gt) (room : ℕ) → reading f s ≡ accepted_as t g
+      → printable t.qual ≡ false → line_answer f strings contigs room s ≡ Err (refusal 17 0)
   pub names : (f : Facts) (strings contigs : Names) (s : List ℕ) (t : Site) (g : Gt) (room : ℕ) → Ready f s t g
-      → (length strings.ends < f.strings) ⊎ (length contigs.ends < f.contigs) → line_answer f strings contigs room s ≡ Refused (refusal 18 0)
+      → (length strings.ends < f.strings) ⊎ (length contigs.ends < f.contigs) → line_answer f strings contigs room s ≡ Err (refusal 18 0)
   pub short : (f : Facts) (strings contigs : Names) (s l : List ℕ) (room : ℕ) → printed f strings contigs s ≡ line l → room < length l
-      → line_answer f strings contigs room s ≡ Refused (refusal 13 0)
+      → line_answer f strings contigs room s ≡ Err (refusal 13 0)
   pub written : (f : Facts) (strings contigs : Names) (s l : List ℕ) (room : ℕ) → printed f strings contigs s ≡ line l → length l ≤ room
-      → line_answer f strings contigs room s ≡ Written (length l)
+      → line_answer f strings contigs room s ≡ Ok (length l)
   -- after the function, a buffer that has room begins with the line, and its other bytes stay; on a refusal all do
   pub begins : (f : Facts) (strings contigs : Names) (s l buf : List ℕ) → printed f strings contigs s ≡ line l → length l ≤ length buf
       → take (length l) (after_line f strings contigs buf s) ≡ l
   pub stays : (f : Facts) (strings contigs : Names) (s l buf : List ℕ) → printed f strings contigs s ≡ line l → length l ≤ length buf
       → drop (length l) (after_line f strings contigs buf s) ≡ drop (length l) buf
-  pub refused : (f : Facts) (strings contigs : Names) (s buf : List ℕ) (r : Refusal) → line_answer f strings contigs (length buf) s ≡ Refused r
+  pub refused : (f : Facts) (strings contigs : Names) (s buf : List ℕ) (r : Refusal) → line_answer f strings contigs (length buf) s ≡ Err r
       → after_line f strings contigs buf s ≡ buf
   -- two records that print alike have the same contig, POS, ID text and list of alleles, if the contig names as they print are distinct and have no tab, no ID
   -- text has a tab or is a lone dot, and no allele has a comma or is a lone dot. Each record has facts and string names of its own
@@ -96,9 +94,9 @@ pub record VcfLines : Type 0 where
   pub no_other : (q : ℕ) → q < 4294967296 → printable q ≡ true → (q ≡ missing_qual) ⊎ ((q ≡ 0x80000000) ⊎ WholeFloat q)
   -- it is so because the bits of such a number are taken for that number; what is taken for a number above 0 are its very bits, and what is taken for 0 is one
   -- of the two zeros. So two QUALs that print alike are the same bits, or both zeros
-  pub whole_bits : (n : ℕ) → n < 16777216 → whole_of (float_bits n) ≡ Number n
-  pub bits_whole : (q n : ℕ) → whole_of q ≡ Number n → 0 < n → q ≡ float_bits n
-  pub two_zeros : (q : ℕ) → q < 4294967296 → whole_of q ≡ Number 0 → (q ≡ 0) ⊎ (q ≡ 0x80000000)
+  pub whole_bits : (n : ℕ) → n < 16777216 → whole_of (float_bits n) ≡ Some n
+  pub bits_whole : (q n : ℕ) → whole_of q ≡ Some n → 0 < n → q ≡ float_bits n
+  pub two_zeros : (q : ℕ) → q < 4294967296 → whole_of q ≡ Some 0 → (q ≡ 0) ⊎ (q ≡ 0x80000000)
   pub qual_alike : (q r : ℕ) → printable q ≡ true → printable r ≡ true → qual_text q ≡ qual_text r
       → (q ≡ r) ⊎ ((q % 0x80000000 ≡ 0) × (r % 0x80000000 ≡ 0))
   -- where no text that a line takes as it is has a tab, the line has 7 tabs, or with GT one more and one for each person; where none has a line feed, the line

@@ -7,8 +7,7 @@ use Rattle.facts.specs.declared.Facts.{Facts}
 use Rattle.positions.specs.Positions.{pos_of}
 use Rattle.fixed.specs.declared.Site.{Site}
 use Rattle.genotypes.specs.Formats.{gt_at}
-use Rattle.record.specs.Reading.{reading}
-use Rattle.record.specs.declared.Reading.TheVariants.{Accepted}
+use Rattle.record.specs.Reading.{reading, accepted_as}
 use Rattle.choice.specs.Choice.{ascending}
 use Rattle.choose_laws.specs.Divisions.{Division}
 
@@ -68,7 +67,7 @@ witness_site =
 
 pub record Witness : Type 0 where
   pub bytes : Bytes witness
-  pub read : reading witness_facts witness ≡ Accepted witness_site (gt_at 1 2 92)
+  pub read : reading witness_facts witness ≡ accepted_as witness_site (gt_at 1 2 92)
   pub few : witness_site.alleles ≤ 64
   -- the first and the third person, and the second
   pub chosen : ascending 3 (0 ∷ 2 ∷ []) ≡ true

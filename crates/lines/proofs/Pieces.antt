@@ -30,7 +30,7 @@ before_none (c ∷ []) = refl
 before_none (c ∷ d ∷ cs) = rw (before_none (d ∷ cs))
 
 -- no feed among these bytes
-Whole : List ℕ → Type 0
+pub Whole : List ℕ → Type 0
 Whole h = line_length h ≡ length h
 
 whole_first : (c : ℕ) (cs : List ℕ) → Whole (c ∷ cs) → (eqb c 0x0A ≡ false) × Whole cs
@@ -50,19 +50,29 @@ lines_alone : (h : List ℕ) → Whole h → lines_of h ≡ last_line h
 unfolding lines_of
 lines_alone h w = ap lines_of (sym (append-nil h)) ∙ lines_before h [] w ∙ before_none h
 
-whole_none : Whole []
+pub whole_none : Whole []
 unfolding Whole line_length
 whole_none = refl
+
+-- a last line is the same with the feed that it lacks
+pub lines_fed : (h : List ℕ) → 0 < length h → Whole h → lines_of (h ++ (0x0A ∷ [])) ≡ lines_of h
+unfolding lines_of
+lines_fed [] z w = absurd (omega arith)
+lines_fed (c ∷ cs) z w =
+    lines_before (c ∷ cs) (0x0A ∷ []) w
+    ∙ before_line (c ∷ cs) [] []
+    ∙ ap (λ (x : List ℕ). x ∷ []) (append-nil (c ∷ cs))
+    ∙ sym (lines_alone (c ∷ cs) w)
 
 whole_more : (c : ℕ) (cs : List ℕ) → eqb c 0x0A ≡ false → Whole cs → Whole (c ∷ cs)
 unfolding Whole line_length
 whole_more c cs e w = rw (e, w)
 
-whole_append : (h r : List ℕ) → Whole h → Whole r → Whole (h ++ r)
+pub whole_append : (h r : List ℕ) → Whole h → Whole r → Whole (h ++ r)
 whole_append [] r w v = v
 whole_append (c ∷ cs) r w v = whole_more c (cs ++ r) (whole_first c cs w).0 (whole_append cs r (whole_first c cs w).1 v)
 
-whole_take : (n : ℕ) (h : List ℕ) → Whole h → Whole (take n h)
+pub whole_take : (n : ℕ) (h : List ℕ) → Whole h → Whole (take n h)
 whole_take zero h w = whole_none
 whole_take (suc n) [] w = whole_none
 whole_take (suc n) (c ∷ cs) w = whole_more c (take n cs) (whole_first c cs w).0 (whole_take n cs (whole_first c cs w).1)
@@ -89,11 +99,11 @@ first_feed (c ∷ cs) h = by-feed (eqb c 0x0A) refl h (first_feed cs)
     by-feed false e k on = ap (λ (x : List ℕ). c ∷ x) (on (omega arith))
 
 -- bytes with no feed among them
-no_feed : (r : List ℕ) → length r ≤ line_length r → Whole r
+pub no_feed : (r : List ℕ) → length r ≤ line_length r → Whole r
 no_feed r h = rw (take_all (line_length r) r h) at (whole_front r)
 
 -- the first line of an input whose first bytes are held and whose next feed is there
-lines_first : (h r more : List ℕ) → Whole h → line_length r < length r
+pub lines_first : (h r more : List ℕ) → Whole h → line_length r < length r
     → lines_of (h ++ (r ++ more)) ≡ (h ++ take (line_length r) r) ∷ lines_of (drop (suc (line_length r)) r ++ more)
 unfolding lines_of
 lines_first h r more w k =
@@ -126,11 +136,11 @@ before_cut n h [] z =
     again k (x ∷ xs) = rw (take-take k k x (omega arith), again k xs)
 before_cut n h (l ∷ ls) z = rw (before_line (take n h) l ls, before_line h l ls, cut_append n h l)
 
-lines_cut : (n : ℕ) (h s : List ℕ) → 0 < n → Whole h → map (take n) (lines_of (take n h ++ s)) ≡ map (take n) (lines_of (h ++ s))
+pub lines_cut : (n : ℕ) (h s : List ℕ) → 0 < n → Whole h → map (take n) (lines_of (take n h ++ s)) ≡ map (take n) (lines_of (h ++ s))
 lines_cut n h s z w = rw (lines_before (take n h) s (whole_take n h w), lines_before h s w) (before_cut n h (lines_of s) z)
 
 -- what the line's buffer holds after a turn
-held_then : (line : List ℕ) (held : ℕ) (part : List ℕ) → held ≤ length line
+pub held_then : (line : List ℕ) (held : ℕ) (part : List ℕ) → held ≤ length line
     → take (held + length (fitting line held part)) (sets line held (fitting line held part)) ≡ take (length line) (take held line ++ part)
 unfolding fitting
 held_then line held part h =
@@ -166,20 +176,20 @@ unfolding lines_taken
 turn_end turns line held piece at k = rw (taken_part line held piece at k)
 
 -- what is held where the piece has ended
-held_all : (line : List ℕ) (held : ℕ) (piece : List ℕ) (at : ℕ) → held ≤ length line → length piece ≤ at + line_length (drop at piece)
+pub held_all : (line : List ℕ) (held : ℕ) (piece : List ℕ) (at : ℕ) → held ≤ length line → length piece ≤ at + line_length (drop at piece)
     → take (held + length (added line held piece at)) (taken_into line held piece at) ≡ take (length line) (take held line ++ drop at piece)
 unfolding taken_into added
 held_all line held piece at h k =
     let e = length-drop at piece in
     rw (take_all (line_length (drop at piece)) (drop at piece) (omega (arith, e))) (held_then line held (drop at piece) h)
 
-held_most : (line : List ℕ) (held : ℕ) (piece : List ℕ) (at : ℕ) → held ≤ length line → held + length (added line held piece at) ≤ length line
+pub held_most : (line : List ℕ) (held : ℕ) (piece : List ℕ) (at : ℕ) → held ≤ length line → held + length (added line held piece at) ≤ length line
 unfolding added fitting
 held_most line held piece at h =
     let e = length-take (length line - held) (take (line_length (drop at piece)) (drop at piece)) in
     omega (arith, e)
 
-length_into : (line : List ℕ) (held : ℕ) (piece : List ℕ) (at : ℕ) → length (taken_into line held piece at) ≡ length line
+pub length_into : (line : List ℕ) (held : ℕ) (piece : List ℕ) (at : ℕ) → length (taken_into line held piece at) ≡ length line
 unfolding taken_into
 length_into line held piece at = length-sets line held (added line held piece at)
 

@@ -1,40 +1,42 @@
 -- Laws of text up to its first zero byte: what is there as far as it was searched, that it holds no zero byte, and that a text with none is whole.
 -- Rests on specs/Names and on words' `among`.
 use mathlib.Core.Path.{◌≡◌, refl, ap}
-use mathlib.Core.List.{List, [], ◌∷◌, ◌++◌}
+use mathlib.Core.List.{List, [], ◌∷◌}
 use mathlib.Core.Bool.{Bool, true, false}
-use Prim.Native.Nat.{ℕ, zero, suc, ◌+◌, ◌-◌, ◌≤◌, ◌<◌}
-use native.Mathlib.Nat.{suc-add}
-use native.Mathlib.Numerals.{sub-one}
+use Prim.Native.Nat.{ℕ, zero, suc, ◌+◌, ◌-◌, ◌≤◌, min, max}
+use mathlib.Core.Logic.{◌≢◌}
+use native.Mathlib.Numerals.{sub-one, add-one}
 use native.Mathlib.Omega.{arith}
-use lib.Dec.{eqb}
-use lib.ListN.{length, get_or, take, drop, length-drop, drop_of_length-le}
+use lib.Dec.{eqb, ltb}
+use lib.ListN.{length, get_or, take, drop, length-take, length-drop, drop_of_length-le}
 use lib.Seq.{take_all, take-nil}
-use borrow.Author.Tests.{eq-eqb, ne_eqb}
+use borrow.Author.Tests.{eq-eqb, ne_eqb, ltb-true, ltb-false}
 use Rattle.words.specs.Pick.{pick}
 use Rattle.words.specs.Lists.{among}
-use Rattle.names.specs.Names.{before_zero, begin_of, stretch_of, name_of, name_at}
+use Rattle.names.specs.Names.{before_zero, begin_of, stretch_of, name_of}
 
--- a search that has come to a place: one byte on, where it is not zero; at an end, where it is; and at the text's end
-pub search_on : (s : List ℕ) (i : ℕ) → i < length s → (get_or s i 0 ≡ 0 → ⊥)
-    → take i s ++ before_zero (drop i s) ≡ take (i + 1) s ++ before_zero (drop (i + 1) s)
+-- where a search stops: at once, or one byte later
+pub zero_here : (b : ℕ) (bs : List ℕ) → b ≡ 0 → length (before_zero (b ∷ bs)) ≡ 0
 unfolding before_zero
-search_on [] i h n = absurd (omega arith)
-search_on (x ∷ s) zero h n = rw (ne_eqb x 0 n)
-search_on (x ∷ s) (suc i) h n = rw suc-add (ap (λ (l : List ℕ). x ∷ l) (search_on s i (omega arith) n))
+zero_here b bs e = rw (eq-eqb b 0 e)
 
-pub search_found : (s : List ℕ) (i : ℕ) → i < length s → get_or s i 0 ≡ 0 → take i s ++ before_zero (drop i s) ≡ take i s
+pub zero_later : (b : ℕ) (bs : List ℕ) → b ≢ 0 → length (before_zero (b ∷ bs)) ≡ length (before_zero bs) + 1
 unfolding before_zero
-search_found [] i h e = absurd (omega arith)
-search_found (x ∷ s) zero h e = rw (eq-eqb x 0 e)
-search_found (x ∷ s) (suc i) h e = ap (λ (l : List ℕ). x ∷ l) (search_found s i (omega arith) e)
+zero_later b bs e = rw (ne_eqb b 0 e, add-one)
 
-pub search_end : (s : List ℕ) (i : ℕ) → length s ≤ i → take i s ++ before_zero (drop i s) ≡ take i s
+-- what stands before it is the text's front
+pub take_before : (l : List ℕ) → take (length (before_zero l)) l ≡ before_zero l
 unfolding before_zero
-search_end [] zero h = refl
-search_end [] (suc i) h = refl
-search_end (x ∷ s) zero h = absurd (omega arith)
-search_end (x ∷ s) (suc i) h = ap (λ (l : List ℕ). x ∷ l) (search_end s i (omega arith))
+take_before [] = refl
+take_before (b ∷ bs) = by-test (eqb b 0) (take_before bs)
+  where
+    by-test : (t : Bool) → take (length (before_zero bs)) bs ≡ before_zero bs
+        → take (length (pick t [] (b ∷ before_zero bs))) (b ∷ bs) ≡ pick t [] (b ∷ before_zero bs)
+    by-test true on = refl
+    by-test false on = ap (λ (l : List ℕ). b ∷ l) on
+
+pub before_inside : (l : List ℕ) → length (before_zero l) ≤ length l
+before_inside l = let e = ap length (take_before l) in omega (arith, e, length-take (length (before_zero l)) l)
 
 -- a text with no zero byte is whole
 pub free : (l : List ℕ) → among 0 l ≡ false → before_zero l ≡ l
@@ -64,28 +66,29 @@ pub begin_after : (ends : List ℕ) (i : ℕ) → (i ≡ 0 → ⊥) → get_or e
 begin_after ends zero h = absurd (h refl)
 begin_after ends (suc i) h = rw sub-one
 
--- where a name's begin and end lie decides what it is and where it stands; with b and e, which the code has read
-pub name_past : (text ends : List ℕ) (i b : ℕ) → b ≡ begin_of ends i → length text ≤ b
-    → (name_of text ends i ≡ []) × (name_at text ends i ≡ length text)
-unfolding name_of stretch_of name_at before_zero
-name_past text ends i b h g = (rw (← h, drop_of_length-le text g, take-nil {A = ℕ} (get_or ends i 0 - b)), rw (← h) (omega arith))
+-- the name, by where its begin and its end lie in the text
+pub name_is : (text ends : List ℕ) (i b e : ℕ) → b ≡ min (begin_of ends i) (length text) → e ≡ max (min (get_or ends i 0) (length text)) b
+    → before_zero (take (e - b) (drop b text)) ≡ name_of text ends i
+unfolding name_of stretch_of
+name_is text ends i b e h k = ap before_zero (by-begin (ltb (length text) (begin_of ends i)) refl)
+  where
+    -- of what is there, the part up to the end
+    by-end : (t : Bool) → ltb (length text) (get_or ends i 0) ≡ t → b ≡ begin_of ends i → b ≤ length text
+        → take (e - b) (drop b text) ≡ take (get_or ends i 0 - b) (drop b text)
+    by-end true q f l =
+        let r = ltb-true _ _ q in
+        rw (take_all (e - b) (drop b text) (rw length-drop (omega arith)), take_all (get_or ends i 0 - b) (drop b text) (rw length-drop (omega arith)))
+    by-end false q f l =
+        let r = ltb-false _ _ q in
+        let z : e - b ≡ get_or ends i 0 - b = omega arith in
+        rw z
 
-pub name_fallen : (text ends : List ℕ) (i b e : ℕ) → b ≡ begin_of ends i → e ≡ get_or ends i 0 → b ≤ length text → e ≤ b
-    → (name_of text ends i ≡ []) × (name_at text ends i ≡ b)
-unfolding name_of stretch_of name_at before_zero
-name_fallen text ends i b e h k g f =
-    let z : e - b ≡ 0 = omega arith in
-    (rw (← h, ← k, z), rw (← h) (omega arith))
-
-pub name_cut : (text ends : List ℕ) (i b e : ℕ) → b ≡ begin_of ends i → e ≡ get_or ends i 0 → b ≤ length text → length text ≤ e
-    → (name_of text ends i ≡ before_zero (take (length text - b) (drop b text))) × (name_at text ends i ≡ b)
-unfolding name_of stretch_of name_at
-name_cut text ends i b e h k g f = (
-  rw (← h, ← k, take_all (e - b) (drop b text) (rw length-drop (omega arith)), take_all (length text - b) (drop b text) (rw length-drop (omega arith))),
-  rw (← h) (omega arith),
-)
-
-pub name_whole : (text ends : List ℕ) (i b e : ℕ) → b ≡ begin_of ends i → e ≡ get_or ends i 0 → b ≤ length text
-    → (name_of text ends i ≡ before_zero (take (e - b) (drop b text))) × (name_at text ends i ≡ b)
-unfolding name_of stretch_of name_at
-name_whole text ends i b e h k g = (rw (← h, ← k), rw (← h) (omega arith))
+    by-begin : (t : Bool) → ltb (length text) (begin_of ends i) ≡ t
+        → take (e - b) (drop b text) ≡ take (get_or ends i 0 - begin_of ends i) (drop (begin_of ends i) text)
+    by-begin true q =
+        let l = ltb-true _ _ q in
+        rw (drop_of_length-le text {i = b} (omega arith), drop_of_length-le text {i = begin_of ends i} (omega arith), take-nil {A = ℕ} (e - b), take-nil {A = ℕ} (get_or ends i 0 - begin_of ends i))
+    by-begin false q =
+        let l = ltb-false _ _ q in
+        let f : b ≡ begin_of ends i = omega arith in
+        rw (← f) (by-end (ltb (length text) (get_or ends i 0)) refl f (omega arith))

@@ -3,12 +3,14 @@
 use mathlib.Core.Path.{◌≡◌, refl, sym, ◌∙◌}
 use mathlib.Core.Bool.{Bool, true, false}
 use mathlib.Core.List.{List, [], ◌∷◌, ◌++◌}
-use Prim.Native.Nat.{ℕ, zero, suc, ◌+◌, ◌-◌, ◌<◌, ◌≤◌}
+use Prim.Native.Nat.{ℕ, zero, suc, ◌+◌, ◌-◌, ◌<◌, ◌≤◌, min}
 use native.Mathlib.Omega.{arith}
 use lib.Dec.{ltb}
 use lib.ListN.{length, set, take, length-append, length-set}
 use lib.Seq.{sets, length-sets, set_out}
 use borrow.Author.Tests.{lt-ltb, le-ltb, ltb-true, ltb-false}
+use Rattle.stores.specs.Stores.{filled}
+use Rattle.stores.proofs.Room.{filled_front}
 use Rattle.words.proofs.Stores.{sets_append}
 use Rattle.pieces.specs.Pieces.{after}
 
@@ -31,6 +33,13 @@ after_either at n = by-test (ltb 18446744073709551615 (at + n)) refl
     by-test : (b : Bool) → ltb 18446744073709551615 (at + n) ≡ b → After at n
     by-test true e = let q = ltb-true 18446744073709551615 (at + n) e in over q (after_over at n q)
     by-test false e = let q = ltb-false 18446744073709551615 (at + n) e in under q (after_under at n q)
+
+pub after_min : (at n : ℕ) → after at n ≡ min 18446744073709551615 (at + n)
+after_min at n = by-either (after_either at n)
+  where
+    by-either : After at n → after at n ≡ min 18446744073709551615 (at + n)
+    by-either (under h e) = rw e (omega arith)
+    by-either (over h e) = rw e (omega arith)
 
 pub after_most : (at n : ℕ) → after at n ≤ 18446744073709551615
 after_most at n = by-either (after_either at n)
@@ -80,6 +89,9 @@ sets_cut l i (x ∷ xs) = by-room (length l - i) refl (sets_cut (set l i x) (suc
     by-room (suc k) e on =
         let q : length (set l i x) - suc i ≡ k = rw (length-set l i x) (omega arith) in
         rw q at on
+
+pub filled_cut : (l : List ℕ) (i : ℕ) (xs : List ℕ) → filled l i (take (min (length l - i) (length xs)) xs) ≡ sets l i xs
+filled_cut l i xs = filled_front l i xs ∙ sets_cut l i xs
 
 -- so the capped place does as well as the sum
 pub sets_after : (l : List ℕ) (at n : ℕ) (xs : List ℕ) → length l ≤ 18446744073709551615 → sets l (after at n) xs ≡ sets l (at + n) xs

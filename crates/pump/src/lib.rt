@@ -13,17 +13,10 @@ use std::io::{Read, Write};
 mod tests;
 
 // The next piece of the input: so many bytes of it; none, where the input has ended; or a read that failed, which is told.
-#[derive(Clone, Copy)]
+#[derive(Clone, Copy, Debug, PartialEq, Eq)]
 pub enum Piece {
     Bytes(usize),
     End,
-    Failed,
-}
-
-// What waits then: so many bytes; or a write that failed, which is told.
-#[derive(Clone, Copy)]
-pub enum Wrote {
-    Waiting(usize),
     Failed,
 }
 
@@ -106,22 +99,23 @@ pub fn write_waiting<W: Write, E: Write>(
     }
 }
 
-// Makes room for so many bytes behind what waits: that is written where there is less.
+// Makes room for so many bytes behind what waits: that is written where there is less. Answers how many bytes wait then, or nothing where the write
+// failed, which is told.
 pub fn make_room<W: Write, E: Write>(
     output: &mut W,
     errors: &mut E,
     out: &[u8],
     waiting: usize,
     room: usize,
-) -> Wrote
+) -> Option<usize>
     ensures inside { RoomMade (fits (length out.now) waiting room) waiting result }
     ensures written { RoomWritten (fits (length out.now) waiting room) (W.contents output.old) (W.contents output.new) out.now waiting result }
 {
     if stores::has_room(out.len(), waiting, room) {
-        return Wrote::Waiting(waiting);
+        return Some(waiting);
     }
     if write_waiting(output, errors, out, waiting) {
-        return Wrote::Waiting(0);
+        return Some(0);
     }
-    Wrote::Failed
+    None
 }

@@ -11,17 +11,11 @@ use lib.Seq.{take-take, take_at, length-take-le}
 use borrow.Author.Tests.{ltb-false, le-ltb}
 use Rattle.words.specs.Pick.{pick}
 use Rattle.fixed.specs.Layout.{indiv_at, chrom_at, pos_at, rlen_at, counts_at, people_at, qual_at, id_at, most_bytes, field}
-use Rattle.fixed.specs.Fixed.{no_blocks, blocks, wrong_at, site_at, fields, no_site, fixed}
+use Rattle.fixed.specs.Fixed.{no_blocks, blocks, wrong_at, site_at, fields, no_site, fixed, lent}
 use Rattle.facts.specs.declared.Facts.{Facts}
 use Rattle.fixed.specs.declared.Site.{Site}
-use Rattle.fixed.specs.declared.Blocks.{Blocks}
-use Rattle.fixed.specs.declared.Blocks.TheVariants.{Lent}
-use Rattle.fixed.specs.declared.Fixed.TheVariants.{Site as Front}
-use Rattle.site.specs.declared.Step.{Step}
-use Rattle.site.specs.declared.Step.TheVariants.{At, Refused as NoStep}
 use Rattle.genotypes.specs.declared.Gt.{Gt}
-use Rattle.record.specs.Reading.{reading, after_fixed, after_site, site_of, genotypes_of}
-use Rattle.record.specs.declared.Reading.TheVariants.{Accepted}
+use Rattle.record.specs.Reading.{reading, after_fixed, after_site, site_of, genotypes_of, accepted_as}
 use Rattle.record.proofs.Accepted.{accepted_fits}
 use Rattle.fetch.specs.Account.{site_fields, genotype_fields, account}
 use Rattle.fetch.specs.Fetch.{field_of, found}
@@ -29,6 +23,9 @@ use Rattle.fetch.specs.declared.Kind.{Kind}
 use Rattle.fetch_laws.proofs.Fronts.{field_take}
 use Rattle.contents.specs.Contents.{shown_of}
 use Rattle.contents.proofs.Blocks.{shown_blocks}
+use Rattle.std.specs.Prelude.{Ok, Err}
+use Rattle.fixed.specs.declared.Blocks.{Blocks}
+use Rattle.values.specs.Answers.{Answer}
 use Rattle.record_laws.specs.Told.{own_length}
 
 -- two lists that begin with the same bytes
@@ -68,22 +65,22 @@ module _ (f : Facts) (s s' : List ℕ) (w : ℕ) (same : take w s' ≡ take w s)
   unfolding site_of genotypes_of
   same_blocks t b l = rw (same_take t.border b) (by-step (site_of f t s))
     where
-      by-step : (x : Step) → after_site f t s' x ≡ after_site f t s x
-      by-step (NoStep r) = refl
-      by-step (At q) = rw (same_take t.length l)
+      by-step : (x : Answer ℕ) → after_site f t s' x ≡ after_site f t s x
+      by-step (Err r) = refl
+      by-step (Ok q) = rw (same_take t.length l)
 
-  same_front : (border : ℕ) → id_at ≤ border → border ≤ w → after_fixed f s' (fields f s' (Lent border w)) ≡ after_fixed f s (fields f s (Lent border w))
+  same_front : (border : ℕ) → id_at ≤ border → border ≤ w → after_fixed f s' (fields f s' (lent border w)) ≡ after_fixed f s (fields f s (lent border w))
   unfolding site_at
   same_front border i b = rw (same_wrong (omega arith), same_site border (omega arith)) (by-test (eqb (wrong_at f s) 0))
     where
-      by-test : (c : Bool) → after_fixed f s' (pick c (Front (site_at border w s)) (no_site 5 (wrong_at f s)))
-          ≡ after_fixed f s (pick c (Front (site_at border w s)) (no_site 5 (wrong_at f s)))
+      by-test : (c : Bool) → after_fixed f s' (pick c (Ok (site_at border w s)) (no_site 5 (wrong_at f s)))
+          ≡ after_fixed f s (pick c (Ok (site_at border w s)) (no_site 5 (wrong_at f s)))
       by-test true = same_blocks (site_at border w s) b (omega arith)
       by-test false = refl
 
 -- a record that is there, by what is left to test of its lengths
-abbrev lent : Bool → Bool → ℕ → ℕ → Blocks
-lent over short border w = pick over (no_blocks 2 0) (pick short (no_blocks 3 border) (Lent border w))
+abbrev as_lent : Bool → Bool → ℕ → ℕ → Answer Blocks
+as_lent over short border w = pick over (no_blocks 2 0) (pick short (no_blocks 3 border) (lent border w))
 
 -- and read the same, where they have the length that the first eight of them say
 same_reading : (f : Facts) (s s' : List ℕ) → 8 ≤ length s → own_length s ≤ length s → own_length s ≤ length s'
@@ -101,8 +98,8 @@ same_reading f s s' e l l' same =
     (by_tests (ltb most_bytes (own_length s)) (ltb (8 + field 0 s) id_at) refl)
   where
     by_tests : (a b : Bool) → ltb (8 + field 0 s) id_at ≡ b
-        → after_fixed f s' (fields f s' (lent a b (8 + field 0 s) (own_length s)))
-        ≡ after_fixed f s (fields f s (lent a b (8 + field 0 s) (own_length s)))
+        → after_fixed f s' (fields f s' (as_lent a b (8 + field 0 s) (own_length s)))
+        ≡ after_fixed f s (fields f s (as_lent a b (8 + field 0 s) (own_length s)))
     by_tests true b h = refl
     by_tests false true h = refl
     by_tests false false h = same_front f s s' (own_length s) same (8 + field 0 s) (ltb-false (8 + field 0 s) id_at h) (omega arith)
@@ -118,7 +115,7 @@ pub own_record : (f : Facts) (s : List ℕ) → 8 ≤ length s → own_length s 
 own_record f s e l = rw (append-nil (take (own_length s) s)) at (after_record f s [] e l)
 
 -- of an accepted record, whose length is told: its account, and so what is found and shown
-module _ (f : Facts) (s : List ℕ) (t : Site) (g : Gt) (rest : List ℕ) (h : reading f s ≡ Accepted t g) where
+module _ (f : Facts) (s : List ℕ) (t : Site) (g : Gt) (rest : List ℕ) (h : reading f s ≡ accepted_as t g) where
   own : take t.length (take t.length s ++ rest) ≡ take t.length s
   own = take_at (take t.length s) rest t.length (length-take-le t.length s (accepted_fits f s t g h).there)
 
@@ -127,7 +124,7 @@ module _ (f : Facts) (s : List ℕ) (t : Site) (g : Gt) (rest : List ℕ) (h : r
       let x = accepted_fits f s t g h in
       same_take f s (take t.length s ++ rest) t.length own t.border (omega (arith, x.border, x.whole))
 
-  pub accepted_after : reading f (take t.length s ++ rest) ≡ Accepted t g
+  pub accepted_after : reading f (take t.length s ++ rest) ≡ accepted_as t g
   unfolding own_length
   accepted_after =
       let x = accepted_fits f s t g h in

@@ -15,8 +15,7 @@ use Rattle.types.specs.Elements.{marked, kind}
 use Rattle.types.specs.declared.Element.{Element}
 use Rattle.types.specs.declared.Element.TheVariants.{Plain, Missing, End, Reserved as ReservedMark}
 use Rattle.vectors.specs.Sound.{highest, code_most}
-use Rattle.vectors.specs.Vectors.{vector}
-use Rattle.vectors.specs.declared.Judged.TheVariants.{Sound}
+use Rattle.vectors.specs.Vectors.{vector, Sound}
 use Rattle.vectors.proofs.Codes.{sound_code}
 use Rattle.shown.specs.Shown.{Kind, integers, floats, text}
 use Rattle.build_given.specs.Given.{number_of, vectors_given, elements_number}

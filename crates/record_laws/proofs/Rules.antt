@@ -15,7 +15,6 @@ use Rattle.words.specs.Words.{outside, Bytes}
 use Rattle.words.proofs.Pick.{pick_zero}
 use Rattle.vectors.specs.Sound.{most_of}
 use Rattle.vectors.specs.Vectors.{unsound}
-use Rattle.vectors.specs.declared.Judged.{Judged}
 use Rattle.fixed.specs.Layout.{pos_wrong, rlen_wrong, qual_wrong}
 use Rattle.facts.specs.declared.Facts.{Facts}
 use Rattle.fixed.specs.declared.Site.{Site}
@@ -23,8 +22,7 @@ use Rattle.site.specs.Alleles.{allele_bytes}
 use Rattle.site.specs.Filters.{filters}
 use Rattle.genotypes.specs.Formats.{role_of}
 use Rattle.genotypes.specs.declared.Gt.{Gt}
-use Rattle.record.specs.Reading.{reading}
-use Rattle.record.specs.declared.Reading.TheVariants.{Accepted}
+use Rattle.record.specs.Reading.{reading, accepted_as}
 use Rattle.fetch_laws.proofs.Once.{among_more}
 use Rattle.shown.specs.Shown.{Shown, Kind, integers, floats, text, Pair, Field, is_integers}
 use Rattle.contents.specs.Contents.{shown_of}
@@ -35,6 +33,7 @@ use Rattle.build_rules.specs.Values.{any, given_as, given_number}
 use Rattle.build_laws.specs.Records.{All, KeepsAllele, KeepsInfo, KeepsField, KeepsFields, Keeps}
 use Rattle.keeps_laws.proofs.Records.{accepted_keeps}
 use Rattle.record_laws.specs.Rules.{Between, Below, NoneTwice, GtElement, AlleleRules, InfoRules, FormatRules, Rules}
+use Rattle.values.specs.Answers.{Answer}
 use Rattle.record_laws.proofs.Vectors.{all_each, given_vectors, given_vector, given_gt}
 
 -- an offset
@@ -142,7 +141,7 @@ filters_right strings w at earlier [] h = record { below = tt; fresh = fresh_non
 filters_right strings w at earlier (x ∷ xs) h =
     by_tests (outside strings x) (among x earlier) refl refl h (filters_right strings w (at + w) (x ∷ earlier) xs)
   where
-    rest : Judged
+    rest : Answer (Unit {0})
     rest = filters strings w (at + w) (x ∷ earlier) xs
 
     by_tests : (a b : Bool) → outside strings x ≡ a → among x earlier ≡ b → number_of (pick a (unsound 8 at) (pick b (unsound 11 at) rest)) ≡ 0
@@ -240,5 +239,5 @@ keeps_rules f r k =
       formats_once = z.fresh.once;
     }
 
-pub accepted_rules : (f : Facts) (s : List ℕ) (t : Site) (g : Gt) → Bytes s → reading f s ≡ Accepted t g → Rules f (shown_of t s)
+pub accepted_rules : (f : Facts) (s : List ℕ) (t : Site) (g : Gt) → Bytes s → reading f s ≡ accepted_as t g → Rules f (shown_of t s)
 accepted_rules f s t g b h = keeps_rules f (shown_of t s) (accepted_keeps f s t g b h)

@@ -7,23 +7,22 @@ use lib.ListN.{drop}
 use Rattle.facts.specs.declared.Facts.{Facts}
 use Rattle.fixed.specs.declared.Site.{Site}
 use Rattle.genotypes.specs.declared.Gt.{Gt}
-use Rattle.site.specs.declared.Step.TheVariants.{At}
-use Rattle.record.specs.Reading.{reading}
-use Rattle.record.specs.declared.Reading.TheVariants.{Accepted}
+use Rattle.record.specs.Reading.{reading, accepted_as}
 use Rattle.record.proofs.Accepted.{accepted_fits}
 use Rattle.fetch.specs.Fields.{field_at}
 use Rattle.fetch.specs.Account.{entered, fields_of, site_fields, genotype_fields}
 use Rattle.fetch.specs.Engine.{field_step, passing}
 use Rattle.fetch.specs.declared.Kind.{Kind}
-use Rattle.fetch.specs.declared.Found.{Found}
-use Rattle.fetch.specs.declared.Found.TheVariants.{Field, Refused}
 use Rattle.fetch_laws.specs.InTurn.{judging, in_turn}
 use Rattle.fetch_laws.proofs.Agree.{went}
 use Rattle.fetch_laws.proofs.There.{judged_passed, accepted_people}
 use Rattle.fetch_laws.proofs.InTurn.{accepted_in_turn}
+use Rattle.fetch.specs.declared.Found.{Found}
+use Rattle.values.specs.Answers.{Answer}
+use Rattle.std.specs.Prelude.{Ok, Err}
 use Rattle.record_laws.specs.Told.{own_length, Told, end_of, Filled}
 
-pub accepted_told : (f : Facts) (s : List ℕ) (t : Site) (g : Gt) → reading f s ≡ Accepted t g → Told f s t
+pub accepted_told : (f : Facts) (s : List ℕ) (t : Site) (g : Gt) → reading f s ≡ accepted_as t g → Told f s t
 unfolding own_length
 accepted_told f s t g h =
     let x = accepted_fits f s t g h in
@@ -44,7 +43,7 @@ accepted_told f s t g h =
     }
 
 -- fields that are judged in turn end where their judgement comes to
-turns_end : (f : Facts) (t : Site) (kinds : List Kind) (at : ℕ) (l : List ℕ) {e : ℕ} → in_turn (judging f t) kinds at l ≡ At e
+turns_end : (f : Facts) (t : Site) (kinds : List Kind) (at : ℕ) (l : List ℕ) {e : ℕ} → in_turn (judging f t) kinds at l ≡ Ok e
     → end_of at (fields_of f.people kinds at l) ≡ e
 unfolding in_turn fields_of passing end_of
 turns_end f t [] at l h = cc
@@ -53,12 +52,12 @@ turns_end f t (kind ∷ kinds) at l {e} h =
     let on = turns_end f t kinds w.place (drop (w.place - at) l) w.on in
     by_field (field_at kind f.people at l) on (judged_passed f t kind at l w.place w.here)
   where
-    by_field : (r : Found) {q : ℕ} → end_of q (fields_of f.people kinds q (drop (q - at) l)) ≡ e → field_step r ≡ At q
+    by_field : (r : Answer Found) {q : ℕ} → end_of q (fields_of f.people kinds q (drop (q - at) l)) ≡ e → field_step r ≡ Ok q
         → end_of at (entered kind at l (fields_of f.people kinds) r) ≡ e
-    by_field (Refused r) on p = cc
-    by_field (Field key code n place stop) {q} on p = let z : stop ≡ q = cc in rw z on
+    by_field (Err r) on p = cc
+    by_field (Ok x) {q} on p = let z : x.stop ≡ q = cc in rw z on
 
-pub accepted_filled : (f : Facts) (s : List ℕ) (t : Site) (g : Gt) → reading f s ≡ Accepted t g → Filled s t
+pub accepted_filled : (f : Facts) (s : List ℕ) (t : Site) (g : Gt) → reading f s ≡ accepted_as t g → Filled s t
 unfolding site_fields genotype_fields
 accepted_filled f s t g h =
     let j = accepted_in_turn f s t g h in

@@ -14,15 +14,14 @@ use Rattle.types.specs.Elements.{marked, kind}
 use Rattle.types.specs.declared.Element.{Element}
 use Rattle.types.specs.declared.Element.TheVariants.{Plain, Missing, End, Reserved as ReservedMark}
 use Rattle.vectors.specs.Sound.{highest, code_most}
-use Rattle.vectors.specs.Vectors.{element_turn, follow, vector, and_then}
-use Rattle.vectors.specs.declared.Judged.{Judged}
-use Rattle.vectors.specs.declared.Judged.TheVariants.{Sound, Refused as Unsound}
-use Rattle.vectors.specs.declared.Turn.TheVariants.{On}
+use Rattle.vectors.specs.Vectors.{element_turn, follow, vector, and_then, Sound}
 use Rattle.vectors.proofs.Codes.{code_sound}
 use Rattle.shown.specs.Shown.{Kind, integers, floats, text}
 use Rattle.build_given.specs.Given.{number_of, vectors_given, elements_number}
 use Rattle.build_rules.specs.Values.{given_as, given_number}
 use Rattle.build_laws.specs.Records.{All}
+use Rattle.std.specs.Prelude.{Err, Ok}
+use Rattle.values.specs.Answers.{Answer}
 use Rattle.record_laws.specs.Rules.{end_mark, Reserved, Vector, GtElement, ends, missing, code, vector_of}
 
 -- what holds of each of a list
@@ -105,7 +104,7 @@ record Runs (most t w at : ℕ) (ended : Bool) (xs : List ℕ) : Type 0 where
   after : (i j : ℕ) → i < j → j < length xs → kind t (get_or xs i 0) ≡ End → kind t (get_or xs j 0) ≡ End
 
 -- one element more at the front
-runs_more : (most t w at : ℕ) (b c : Bool) (x : ℕ) (xs : List ℕ) → element_turn most b (kind t x) x ≡ On c → Passes most t x
+runs_more : (most t w at : ℕ) (b c : Bool) (x : ℕ) (xs : List ℕ) → element_turn most b (kind t x) x ≡ Ok c → Passes most t x
     → (b ≡ true → kind t x ≡ End) → (kind t x ≡ End → c ≡ true) → Runs most t w (at + w) c xs → Runs most t w at b (x ∷ xs)
 unfolding vector
 runs_more most t w at b c x xs turn pass late end r =
@@ -127,7 +126,7 @@ unfolding vector
 number_runs most t w at b [] h = record { sound = refl; passes = tt; over = λ e. tt; after = λ i j p q e. absurd (omega arith) }
 number_runs most t w at b (x ∷ xs) h = by_kind (kind t x) refl b h (λ c. number_runs most t w (at + w) c xs)
   where
-    rest : Bool → Judged
+    rest : Bool → Answer (Unit {0})
     rest c = vector most t w (at + w) c xs
 
     by_kind : (k : Element) → kind t x ≡ k → (b : Bool) → number_of (follow at (element_turn most b k x) rest) ≡ 0
@@ -166,9 +165,9 @@ passes_gt alleles x (at_missing e) = missing (marked_missing 0x80000000 0x800000
 passes_gt alleles x (at_plain e l) = let c = code_sound alleles 3 x l in code (omega arith) (omega arith)
 
 -- vectors of a length, one after the other: the first, and those after it
-first_sound : (a b : Judged) → (number_of a ≡ 0 → a ≡ Sound) → number_of (and_then a b) ≡ 0 → (number_of a ≡ 0) × (number_of b ≡ 0)
+first_sound : (a b : Answer (Unit {0})) → (number_of a ≡ 0 → a ≡ Sound) → number_of (and_then a b) ≡ 0 → (number_of a ≡ 0) × (number_of b ≡ 0)
 first_sound Sound b f h = (refl, h)
-first_sound (Unsound r) b f h = let e = f h in let z : ◌≡◌ {A = ℕ} 0 1 = cc in absurd (omega arith)
+first_sound (Err r) b f h = let e = f h in let z : ◌≡◌ {A = ℕ} 0 1 = cc in absurd (omega arith)
 
 given_runs : (most t len n : ℕ) (xs : List ℕ) → number_of (vectors_given most t len n xs) ≡ 0
     → (i : ℕ) → i < n → Runs most t 0 0 false (vector_of len i xs)

@@ -12,39 +12,23 @@ use lib.Seq.{sets}
 use Rattle.words.specs.Lists.{among}
 use Rattle.words.specs.Pick.{pick}
 use Rattle.stores.specs.Stores.{filled}
-use Rattle.values.specs.Answers.{refusal}
+use Rattle.values.specs.Answers.{refusal, Answer}
 use Rattle.values.specs.declared.Refusal.{Refusal}
 use Rattle.facts.specs.declared.Facts.{Facts}
 use Rattle.fixed.specs.declared.Site.{Site}
 use Rattle.record.specs.Reading.{reading}
-use Rattle.record.specs.declared.Reading.{Reading}
-use Rattle.record.specs.declared.Reading.TheVariants.{Accepted, Refused as Unread}
 use Rattle.fetch.specs.Fetch.{field_of, found}
 use Rattle.fetch.specs.declared.Kind.{Kind}
-use Rattle.fetch.specs.declared.Found.{Found}
-use Rattle.fetch.specs.declared.Found.TheVariants.{Field, Refused as NoField}
 use Rattle.elements.specs.declared.Shown.{Shown}
-use Rattle.elements.specs.declared.Shown.TheVariants.{Integer, Float, Text, Nothing}
+use Rattle.elements.specs.declared.Shown.TheVariants.{Integer, Float, Text}
 use Rattle.walker.specs.Walk.{opened}
-use Rattle.walker.specs.declared.Opening.{Opening}
-use Rattle.walker.specs.declared.Opening.TheVariants.{First, Refused as Unopened}
-use Rattle.walker.specs.declared.Pair.{Pair}
-use Rattle.walker.specs.declared.Pair.TheVariants.{Found as Whole, End}
 use Rattle.tally.specs.Tally.{tallied}
-use Rattle.tally.specs.declared.Counting.{Counting}
-use Rattle.tally.specs.declared.Counting.TheVariants.{Counted, Refused as Uncounted}
 use Rattle.choose.specs.Choose.{choosing, after_choosing}
-use Rattle.choose.specs.declared.Choosing.{Choosing}
-use Rattle.choose.specs.declared.Choosing.TheVariants.{Chosen, Refused as Unchosen}
 use Rattle.build.specs.Turns.{fresh_state}
 use Rattle.build.specs.declared.Builder.{Builder}
-use Rattle.build.specs.declared.Answer.{Answer}
-use Rattle.build.specs.declared.Answer.TheVariants.{Taken, Refused}
 use Rattle.build.specs.declared.Turned.{Turned}
-use Rattle.build.specs.Answers.{answer_number}
+use Rattle.build.specs.Answers.{answer_number, Taken}
 use Rattle.vcf_line.specs.Line.{Names, line_answer, after_line}
-use Rattle.vcf_line.specs.declared.Line.{Line}
-use Rattle.vcf_line.specs.declared.Line.TheVariants.{Written, Refused as Unlined}
 use Rattle.c_answers.specs.Told.{answer, refused_answer, told_answer, site_numbers, reading_answer, reading_numbers, field_numbers, found_answer, found_numbers, pair_answer, pair_numbers, opening_answer, shown_answer, tally_numbers, counting_answer, counting_numbers, tallied_answer, tallied_numbers, choosing_answer, line_number}
 use Rattle.c_state.specs.Kept.{state_numbers, turn_low, turn_answer, held_after, turn_numbers, fresh_answer, fresh_numbers}
 use Rattle.refusal_laws.specs.Numbers.{reading_gives, fetching_gives, tally_gives, choosing_gives, line_gives, telling_gives}
@@ -52,6 +36,10 @@ use Rattle.record_laws.specs.Told.{own_length}
 use Rattle.refusal_laws.specs.Refused.{Told, InRecord, AtStart, Refuses, Halves, Answered}
 use Rattle.refusal_laws.proofs.Among.{among_before, among_behind}
 use Rattle.refusal_laws.proofs.Reading.{reading_refused}
+use Rattle.walker.specs.declared.Pair.{Pair}
+use Rattle.fetch.specs.declared.Found.{Found}
+use Rattle.std.specs.Prelude.{Err, Ok, Option, None, Some}
+use Rattle.record.specs.declared.Reading.{Reading}
 use Rattle.refusal_laws.proofs.AfterReading.{field_refused, found_refused, opened_refused, tallied_refused, choosing_refused, line_refused}
 
 high_half : (n low : ℕ) → answer n low / 4294967296 ≡ n
@@ -106,16 +94,16 @@ pub reading_answered : (f : Facts) (s out : List ℕ)
 unfolding among
 reading_answered f s out = by-reading (reading f s) refl
   where
-    by-reading : (x : Reading) → reading f s ≡ x
+    by-reading : (x : Answer Reading) → reading f s ≡ x
         → Answered (reading_gives ++ telling_gives) (own_length s) (reading_answer (length out) x) out (reading_numbers out x)
-    by-reading (Unread r) e = refused _ _ r out out (in_record reading_gives telling_gives s r (reading_refused f s r e)) refl
-    by-reading (Accepted t g) e = tells _ (own_length s) t.length out (site_numbers t g) refl
+    by-reading (Err r) e = refused _ _ r out out (in_record reading_gives telling_gives s r (reading_refused f s r e)) refl
+    by-reading (Ok a) e = tells _ (own_length s) a.site.length out (site_numbers a.site a.gt) refl
 
 -- fetching, also without reading again: a field, whose refusal is told up to an end
-found_by : (numbers : List ℕ) (end : ℕ) (out : List ℕ) (x : Found) → among 13 numbers ≡ true → ((r : Refusal) → x ≡ NoField r → Told numbers end r)
+found_by : (numbers : List ℕ) (end : ℕ) (out : List ℕ) (x : Answer Found) → among 13 numbers ≡ true → ((r : Refusal) → x ≡ Err r → Told numbers end r)
     → Answered numbers end (found_answer (length out) x) out (found_numbers out x)
-found_by numbers end out (NoField r) h k = refused numbers end r out out (k r refl) refl
-found_by numbers end out (Field key t n place stop) h k = tells numbers end (stop - place) out (field_numbers key t n place stop) h
+found_by numbers end out (Err r) h k = refused numbers end r out out (k r refl) refl
+found_by numbers end out (Ok x) h k = tells numbers end (x.stop - x.place) out (field_numbers x.key x.code x.len x.place x.stop) h
 
 pub found_answered : (f : Facts) (kind : Kind) (n : ℕ) (s out : List ℕ)
     → Answered (reading_gives ++ fetching_gives ++ telling_gives) (own_length s) (found_answer (length out) (found f kind n s)) out
@@ -135,23 +123,23 @@ field_answered kind n t s out =
 pub opening_halves : (f : Facts) (s : List ℕ) → Halves reading_gives (own_length s) (opening_answer (opened f s))
 opening_halves f s = by-opening (opened f s) refl
   where
-    by-opening : (x : Opening) → opened f s ≡ x → Halves reading_gives (own_length s) (opening_answer x)
-    by-opening (Unopened r) e =
+    by-opening : (x : Answer ℕ) → opened f s ≡ x → Halves reading_gives (own_length s) (opening_answer x)
+    by-opening (Err r) e =
         refused_halves reading_gives (own_length s) r (in_record reading_gives [] s r (reading_refused f s r (opened_refused f s r e)))
-    by-opening (First at) e = accepted_halves reading_gives (own_length s) at
+    by-opening (Ok at) e = accepted_halves reading_gives (own_length s) at
 
-pub pair_answered : (p : Pair) (out : List ℕ) → Answered (fetching_gives ++ telling_gives) 0 (pair_answer (length out) p) out (pair_numbers out p)
+pub pair_answered : (p : Option Pair) (out : List ℕ) → Answered (fetching_gives ++ telling_gives) 0 (pair_answer (length out) p) out (pair_numbers out p)
 unfolding among refused_answer
-pair_answered End out = refused _ 0 (refusal 16 0) out out (record { number = refl; place = omega arith }) refl
-pair_answered (Whole key t n place next) out = tells _ 0 (next - place) out (field_numbers key t n place next) refl
+pair_answered None out = refused _ 0 (refusal 16 0) out out (record { number = refl; place = omega arith }) refl
+pair_answered (Some p) out = tells _ 0 (p.next - p.place) out (field_numbers p.key p.code p.len p.place p.next) refl
 
 -- an element that is shown
-pub shown_halves : (e : Shown) → Halves fetching_gives 0 (shown_answer e)
+pub shown_halves : (e : Option Shown) → Halves fetching_gives 0 (shown_answer e)
 unfolding among refused_answer
-shown_halves (Integer z) = accepted_halves fetching_gives 0 _
-shown_halves (Float b) = accepted_halves fetching_gives 0 b
-shown_halves (Text b) = accepted_halves fetching_gives 0 b
-shown_halves Nothing = refused_halves fetching_gives 0 (refusal 16 0) (record { number = refl; place = omega arith })
+shown_halves (Some (Integer z)) = accepted_halves fetching_gives 0 _
+shown_halves (Some (Float b)) = accepted_halves fetching_gives 0 b
+shown_halves (Some (Text b)) = accepted_halves fetching_gives 0 b
+shown_halves None = refused_halves fetching_gives 0 (refusal 16 0) (record { number = refl; place = omega arith })
 
 -- the tally, choosing, and a VCF line
 pub tally_answered : (f : Facts) (s out : List ℕ)
@@ -160,34 +148,34 @@ pub tally_answered : (f : Facts) (s out : List ℕ)
 unfolding among
 tally_answered f s out = by-counting (tallied f s).answer refl
   where
-    by-counting : (x : Counting) → (tallied f s).answer ≡ x
+    by-counting : (x : Answer Site) → (tallied f s).answer ≡ x
         → Answered (reading_gives ++ tally_gives ++ telling_gives) (own_length s) (counting_answer (length out) (tallied f s).calls x) out
         (counting_numbers out (tallied f s).calls x)
-    by-counting (Uncounted r) e =
+    by-counting (Err r) e =
         refused _ _ r out out (in_record (reading_gives ++ tally_gives) telling_gives s r (tallied_refused f s r e).0.told) refl
-    by-counting (Counted t) e = tells _ (own_length s) t.length out (tally_numbers t (tallied f s).calls) refl
+    by-counting (Ok t) e = tells _ (own_length s) t.length out (tally_numbers t (tallied f s).calls) refl
 
 pub choosing_answered : (f : Facts) (cs buf s : List ℕ)
     → Answered (reading_gives ++ choosing_gives) (own_length s) (choosing_answer (choosing f cs (length buf) s)) buf (after_choosing f cs buf s)
 choosing_answered f cs buf s = by-choosing (choosing f cs (length buf) s) refl
   where
-    by-choosing : (x : Choosing) → choosing f cs (length buf) s ≡ x
+    by-choosing : (x : Answer ℕ) → choosing f cs (length buf) s ≡ x
         → Answered (reading_gives ++ choosing_gives) (own_length s) (choosing_answer x) buf (after_choosing f cs buf s)
-    by-choosing (Unchosen r) e =
+    by-choosing (Err r) e =
         let k = choosing_refused f cs buf s r e in
         refused _ _ r buf (after_choosing f cs buf s) (in_record (reading_gives ++ choosing_gives) [] s r k.0.told) k.1
-    by-choosing (Chosen n) e = accepted _ (own_length s) n buf (after_choosing f cs buf s)
+    by-choosing (Ok n) e = accepted _ (own_length s) n buf (after_choosing f cs buf s)
 
 pub line_answered : (f : Facts) (strings contigs : Names) (buf s : List ℕ)
     → Answered (reading_gives ++ line_gives) (own_length s) (line_number (line_answer f strings contigs (length buf) s)) buf (after_line f strings contigs buf s)
 line_answered f strings contigs buf s = by-line (line_answer f strings contigs (length buf) s) refl
   where
-    by-line : (x : Line) → line_answer f strings contigs (length buf) s ≡ x
+    by-line : (x : Answer ℕ) → line_answer f strings contigs (length buf) s ≡ x
         → Answered (reading_gives ++ line_gives) (own_length s) (line_number x) buf (after_line f strings contigs buf s)
-    by-line (Unlined r) e =
+    by-line (Err r) e =
         let k = line_refused f strings contigs buf s r e in
         refused _ _ r buf (after_line f strings contigs buf s) (in_record (reading_gives ++ line_gives) [] s r k.0.told) k.1
-    by-line (Written n) e = accepted _ (own_length s) n buf (after_line f strings contigs buf s)
+    by-line (Ok n) e = accepted _ (own_length s) n buf (after_line f strings contigs buf s)
 
 -- a fresh state, and a turn: the state's numbers and the buffer
 pub fresh_answered : (ns : List ℕ) → Answered telling_gives 0 (fresh_answer (length ns)) ns (fresh_numbers ns)
@@ -199,11 +187,11 @@ pub turn_answered : (numbers : List ℕ) (st : Builder) (buf ns after : List ℕ
 unfolding refused_answer
 turn_answered numbers st buf ns after t h = by_answer t.answer refl
   where
-    by_answer : (a : Answer) → t.answer ≡ a
+    by_answer : (a : Answer (Unit {0})) → t.answer ≡ a
         → Answered numbers 0 (answer (answer_number a) (turn_low t.state a)) ns (held_after ns t.state a)
         × Answered numbers 0 (answer (answer_number a) (turn_low t.state a)) buf after
     by_answer Taken e = (accepted numbers 0 t.state.at ns _, accepted numbers 0 t.state.at buf after)
-    by_answer (Refused r) e =
+    by_answer (Err r) e =
         let k = h r e in
         let told : Told numbers 0 r = record { number = k.told.number; place = omega (arith, k.told.place) } in
         (refused numbers 0 r ns ns told refl, refused numbers 0 r buf after told k.buffer)

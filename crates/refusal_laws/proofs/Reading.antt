@@ -13,21 +13,16 @@ use Rattle.fixed.specs.Layout.{indiv_at, chrom_at, pos_at, rlen_at, counts_at, p
 use Rattle.fixed.specs.Fixed.{blocks, wrong_at, site_at, fields, fixed}
 use Rattle.facts.specs.declared.Facts.{Facts}
 use Rattle.fixed.specs.declared.Site.{Site}
-use Rattle.fixed.specs.declared.Blocks.{Blocks}
-use Rattle.fixed.specs.declared.Blocks.TheVariants.{Lent, Refused as NoBlocks}
-use Rattle.fixed.specs.declared.Fixed.{Fixed}
-use Rattle.fixed.specs.declared.Fixed.TheVariants.{Site as Front, Refused as NoSite}
-use Rattle.site.specs.declared.Step.{Step}
-use Rattle.site.specs.declared.Step.TheVariants.{At, Refused as NoStep}
-use Rattle.genotypes.specs.declared.Genotypes.{Genotypes}
-use Rattle.genotypes.specs.declared.Genotypes.TheVariants.{Sound as Genotyped, Refused as NoGenotypes}
 use Rattle.record.specs.Reading.{site_of, genotypes_of, after_genotypes, after_site, after_fixed, reading}
-use Rattle.record.specs.declared.Reading.{Reading}
-use Rattle.record.specs.declared.Reading.TheVariants.{Accepted, Refused}
 use Rattle.refusal_laws.specs.Numbers.{reading_gives}
 use Rattle.record_laws.specs.Told.{own_length}
 use Rattle.refusal_laws.specs.Refused.{Told, InRecord}
 use Rattle.refusal_laws.proofs.Among.{tested, either}
+use Rattle.record.specs.declared.Reading.{Reading}
+use Rattle.genotypes.specs.declared.Gt.{Gt}
+use Rattle.std.specs.Prelude.{Err, Ok}
+use Rattle.fixed.specs.declared.Blocks.{Blocks}
+use Rattle.values.specs.Answers.{Answer}
 use Rattle.refusal_laws.proofs.Blocks.{step_told, GenotypesTold, site_told_lem, genotypes_told}
 
 -- the front of a record: refused at a place of the record; else the record is lent whole, and its fixed fields stand in the site block
@@ -37,17 +32,17 @@ pub record Lies (border whole : ℕ) (s : List ℕ) : Type 0 where
   pub own : whole ≡ own_length s
   pub lent : whole ≤ length s
 
-abbrev BlocksTold : List ℕ → Blocks → Type 0
-BlocksTold s (NoBlocks r) = InRecord reading_gives s r
-BlocksTold s (Lent border whole) = Lies border whole s
+abbrev BlocksTold : List ℕ → Answer Blocks → Type 0
+BlocksTold s (Err r) = InRecord reading_gives s r
+BlocksTold s (Ok b) = Lies b.border b.length s
 
-abbrev FixedTold : List ℕ → Fixed → Type 0
-FixedTold s (NoSite r) = InRecord reading_gives s r
-FixedTold s (Front t) = Lies t.border t.length s
+abbrev FixedTold : List ℕ → Answer Site → Type 0
+FixedTold s (Err r) = InRecord reading_gives s r
+FixedTold s (Ok t) = Lies t.border t.length s
 
-abbrev ReadingTold : List ℕ → Reading → Type 0
-ReadingTold s (Refused r) = InRecord reading_gives s r
-ReadingTold s (Accepted t g) = Unit {0}
+abbrev ReadingTold : List ℕ → Answer Reading → Type 0
+ReadingTold s (Err r) = InRecord reading_gives s r
+ReadingTold s (Ok a) = Unit {0}
 
 blocks_told : (s : List ℕ) → BlocksTold s (blocks s)
 unfolding blocks own_length among
@@ -76,10 +71,10 @@ wrong_before f s =
     (either P (people_wrong f.people (formats_in members) (people_in members)) _ _ (omega arith)
     (omega arith))))))
 
-fields_told : (f : Facts) (s : List ℕ) (b : Blocks) → BlocksTold s b → FixedTold s (fields f s b)
+fields_told : (f : Facts) (s : List ℕ) (b : Answer Blocks) → BlocksTold s b → FixedTold s (fields f s b)
 unfolding site_at among
-fields_told f s (NoBlocks r) h = h
-fields_told f s (Lent border whole) h =
+fields_told f s (Err r) h = h
+fields_told f s (Ok b) h =
     let before = wrong_before f s in
     either (FixedTold s) (eqb (wrong_at f s) 0) _ _ h
     (record { number = refl; place = omega (arith, before); lent = omega (arith, before) })
@@ -94,24 +89,24 @@ told_inside s border whole end r w e h =
 block_end_lem : (from stop whole : ℕ) (s : List ℕ) → from ≤ stop → stop ≤ whole → from + length (drop from (take stop s)) ≤ stop
 block_end_lem from stop whole s a b = rw (length-drop, length-take) (omega arith)
 
-genotypes_read : (s : List ℕ) (t : Site) (end : ℕ) (g : Genotypes) → Lies t.border t.length s → end ≤ t.length → GenotypesTold end g
+genotypes_read : (s : List ℕ) (t : Site) (end : ℕ) (g : Answer Gt) → Lies t.border t.length s → end ≤ t.length → GenotypesTold end g
     → ReadingTold s (after_genotypes t g)
-genotypes_read s t end (NoGenotypes r) w e h = told_inside s t.border t.length end r w e h
-genotypes_read s t end (Genotyped g) w e h = tt
+genotypes_read s t end (Err r) w e h = told_inside s t.border t.length end r w e h
+genotypes_read s t end (Ok g) w e h = tt
 
-site_read : (f : Facts) (s : List ℕ) (t : Site) (end : ℕ) (p : Step) → Lies t.border t.length s → end ≤ t.border → step_told id_at end p
+site_read : (f : Facts) (s : List ℕ) (t : Site) (end : ℕ) (p : Answer ℕ) → Lies t.border t.length s → end ≤ t.border → step_told id_at end p
     → ReadingTold s (after_site f t s p)
 unfolding genotypes_of
-site_read f s t end (NoStep r) w e h = told_inside s t.border t.length end r w (omega (arith, w.site)) h
-site_read f s t end (At q) w e h =
+site_read f s t end (Err r) w e h = told_inside s t.border t.length end r w (omega (arith, w.site)) h
+site_read f s t end (Ok q) w e h =
     let l = drop t.border (take t.length s) in
     genotypes_read s t (t.border + length l) (genotypes_of f t s) w (block_end_lem t.border t.length t.length s w.site (omega arith))
     (genotypes_told f t t.formats t.border l)
 
-fixed_read : (f : Facts) (s : List ℕ) (x : Fixed) → FixedTold s x → ReadingTold s (after_fixed f s x)
+fixed_read : (f : Facts) (s : List ℕ) (x : Answer Site) → FixedTold s x → ReadingTold s (after_fixed f s x)
 unfolding site_of
-fixed_read f s (NoSite r) h = h
-fixed_read f s (Front t) h =
+fixed_read f s (Err r) h = h
+fixed_read f s (Ok t) h =
     let l = drop id_at (take t.border s) in
     site_read f s t (id_at + length l) (site_of f t s) h (block_end_lem id_at t.border t.length s h.front h.site) (site_told_lem f t id_at l)
 
@@ -120,5 +115,5 @@ unfolding reading fixed
 reading_told f s = fixed_read f s (fixed f s) (fields_told f s (blocks s) (blocks_told s))
 
 -- the law: one of reading's numbers, at a place of the record
-pub reading_refused : (f : Facts) (s : List ℕ) (r : Refusal) → reading f s ≡ Refused r → InRecord reading_gives s r
+pub reading_refused : (f : Facts) (s : List ℕ) (r : Refusal) → reading f s ≡ Err r → InRecord reading_gives s r
 reading_refused f s r h = rw h at (reading_told f s)

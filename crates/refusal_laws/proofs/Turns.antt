@@ -14,11 +14,9 @@ use Rattle.words.specs.Lists.{among}
 use Rattle.words.specs.Pick.{pick}
 use Rattle.words.specs.Words.{outside}
 use Rattle.types.specs.Elements.{kind}
-use Rattle.values.specs.Answers.{refusal}
-use Rattle.vectors.specs.Vectors.{vector}
+use Rattle.values.specs.Answers.{refusal, Answer}
+use Rattle.vectors.specs.Vectors.{vector, Sound}
 use Rattle.vectors.specs.Sound.{most_of}
-use Rattle.vectors.specs.declared.Judged.{Judged}
-use Rattle.vectors.specs.declared.Judged.TheVariants.{Sound, Refused as Unsound}
 use Rattle.fixed.specs.Layout.{id_at, filled_to, most_bytes, pos_wrong, rlen_wrong, qual_wrong}
 use Rattle.facts.specs.declared.Facts.{Facts}
 use Rattle.shown.specs.Shown.{Kind, integers, floats, text, is_integers}
@@ -39,6 +37,7 @@ use Rattle.refusal_laws.specs.Numbers.{begin_gives, id_gives, allele_gives, filt
 use Rattle.refusal_laws.specs.Refused.{MadeOf, Kept, Refuses}
 use Rattle.refusal_laws.proofs.Among.{either, all_among, among_wider, among_behind, first_among}
 use Rattle.refusal_laws.proofs.Values.{JudgedTold, element_gives, turn_told, vector_told, and_told}
+use Rattle.std.specs.Prelude.{Err}
 use Rattle.refusal_laws.proofs.Blocks.{bytes_told, filters_told}
 
 -- the law of a turn: its answer, its state and its buffer are made of one number
@@ -138,10 +137,10 @@ fields_give f chrom pos rlen qual =
     (either P (ltb 16777215 f.people) 5 0 refl refl))))
 
 -- and so have elements that are given
-number_gives : (ns : List ℕ) (end : ℕ) (j : Judged) → JudgedTold ns end j → NoneOr ns (number_of j)
+number_gives : (ns : List ℕ) (end : ℕ) (j : Answer (Unit {0})) → JudgedTold ns end j → NoneOr ns (number_of j)
 unfolding among
 number_gives ns end Sound h = refl
-number_gives ns end (Unsound r) h = among_behind r.number (0 ∷ []) ns h.number
+number_gives ns end (Err r) h = among_behind r.number (0 ∷ []) ns h.number
 
 filters_give : (strings : ℕ) (xs : List ℕ) → NoneOr (8 ∷ 11 ∷ []) (filters_number strings xs)
 unfolding filters_number

@@ -10,12 +10,12 @@ use native.Mathlib.Numerals.{add-one}
 use lib.Dec.{eqb}
 use lib.ListN.{length, get_or, replicate, get_or-replicate}
 use lib.Seq.{get_or-set_same, get_or-set_other}
+use borrow.Author.Count.{below_more}
 use borrow.Author.Tests.{eq-eqb, ne_eqb, eqb-true, eqb-false}
 use Rattle.words.specs.Lists.{among}
 use Rattle.words.specs.Pick.{pick}
 use Rattle.repeats.specs.Engine.{earlier, stood, Fresh, held, with_bit, noted, noting}
 use Rattle.repeats.proofs.Bits.{set_same, set_other}
-use Rattle.repeats.proofs.Lists.{onward}
 
 -- the bits of a window that has noted some numbers
 abbrev pub Notes : ℕ → List ℕ → List ℕ → Type 0
@@ -107,7 +107,7 @@ pub sweep_fresh : (xs bits : List ℕ) (window i : ℕ) → Notes window bits (e
     → noted window (get_or xs i 0) bits ≡ false → Fresh window xs (i + 1)
 unfolding stood
 sweep_fresh xs bits window i n f h =
-    onward (λ j. get_or xs j 0 / 4194304 ≡ window → stood xs j ≡ false) i f
+    below_more (λ j. get_or xs j 0 / 4194304 ≡ window → stood xs j ≡ false) i f
     (λ e. sym (noted_among window (get_or xs i 0) bits (earlier i xs) n e) ∙ h)
 
 pub sweep_notes : (xs bits : List ℕ) (window i : ℕ) → length bits ≡ 131072 → Notes window bits (earlier i xs)

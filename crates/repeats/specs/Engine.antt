@@ -45,6 +45,11 @@ abbrev pub Bounded : ℕ → ℕ → List ℕ → ℕ → Type 0
 Bounded window bound xs r =
     (r ≤ bound) × ((r ≡ bound) ⊎ (stood xs r ≡ true)) × Fresh window xs r
 
+-- the first repeat among the first so many numbers, or their count
+abbrev pub FirstWithin : ℕ → List ℕ → ℕ → Type 0
+FirstWithin count xs r =
+    (r ≤ count) × ((r ≡ count) ⊎ (stood xs r ≡ true)) × ((j : ℕ) → j < r → stood xs j ≡ false)
+
 -- a bound after all windows below one: the count of all numbers or a repeat, and before it no repeat of those windows
 abbrev pub Below : ℕ → ℕ → List ℕ → Type 0
 Below window bound xs =

@@ -13,15 +13,14 @@ use Rattle.words.specs.Lists.{among}
 use Rattle.words.specs.Pick.{pick}
 use Rattle.words.specs.Words.{outside}
 use Rattle.types.specs.Rows.{width_of}
-use Rattle.vectors.specs.Vectors.{unsound}
-use Rattle.vectors.specs.declared.Judged.{Judged}
-use Rattle.vectors.specs.declared.Judged.TheVariants.{Sound}
+use Rattle.vectors.specs.Vectors.{unsound, Sound}
 use Rattle.repeats.specs.Repeats.{shown_elements, first_outside, repeat_after, first_repeat}
 use Rattle.repeats.proofs.Elements.{length_elements, elements_front}
+use Rattle.values.specs.Answers.{Answer}
 use Rattle.site.specs.Filters.{filters, filtered}
 
 -- n elements of w bytes from a place on, of which the first k are offsets, and the first repeat of those is the one at r
-abbrev pub verdict : ℕ → ℕ → ℕ → ℕ → ℕ → Judged
+abbrev pub verdict : ℕ → ℕ → ℕ → ℕ → ℕ → Answer (Unit {0})
 verdict w at r k n =
     pick (ltb r k) (unsound 11 (at + r * w)) (pick (ltb k n) (unsound 8 (at + k * w)) Sound)
 

@@ -1,3 +1,4 @@
 pub mod Filters
 pub mod Inside
 pub mod Turns
+pub mod Said

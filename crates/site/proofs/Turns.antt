@@ -9,26 +9,25 @@ use lib.ListN.{length, get_or, drop, drop_of_length-le}
 use borrow.Author.Tests.{lt-leb}
 use Rattle.words.specs.Pick.{pick}
 use Rattle.words.proofs.Places.{front, drop_on}
-use Rattle.vectors.specs.Vectors.{unsound}
-use Rattle.vectors.specs.declared.Judged.TheVariants.{Sound}
+use Rattle.vectors.specs.Vectors.{unsound, Sound}
 use Rattle.site.specs.Alleles.{allele_bytes}
+use Rattle.std.specs.Prelude.{Ok}
+use Rattle.values.specs.Answers.{Answer}
 use Rattle.site.specs.Steps.{times, then, ended, no_step}
-use Rattle.site.specs.declared.Step.{Step}
-use Rattle.site.specs.declared.Step.TheVariants.{At}
 
 -- the same step, where some are left
-pub times_turn : (step : ℕ → List ℕ → Step) (s : List ℕ) (n at : ℕ) → 0 < n
+pub times_turn : (step : ℕ → List ℕ → Answer ℕ) (s : List ℕ) (n at : ℕ) → 0 < n
     → times step n at (drop at s) ≡ then at (drop at s) (step at (drop at s)) (times step (n - 1))
 unfolding times
 times_turn step s zero at h = absurd (omega arith)
 times_turn step s (suc n) at h = rw sub-one
 
 -- a step that came to a later place, and on from there
-pub then_on : (s : List ℕ) (at q : ℕ) (next : ℕ → List ℕ → Step) → at ≤ q → then at (drop at s) (At q) next ≡ next q (drop q s)
+pub then_on : (s : List ℕ) (at q : ℕ) (next : ℕ → List ℕ → Answer ℕ) → at ≤ q → then at (drop at s) (Ok q) next ≡ next q (drop q s)
 then_on s at q next h = rw (drop_on s at q h)
 
 -- the end of a block
-pub ended_at : (s : List ℕ) (at : ℕ) → ended at (drop at s) ≡ pick (leb (length s) at) (At at) (no_step 4 at)
+pub ended_at : (s : List ℕ) (at : ℕ) → ended at (drop at s) ≡ pick (leb (length s) at) (Ok at) (no_step 4 at)
 ended_at s at = front (ended at) s at
 
 -- an allele's bytes, where some are left and where none is

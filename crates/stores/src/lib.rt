@@ -7,56 +7,48 @@ ghost use Rattle.words.specs.Words.{bytes};
 ghost use Rattle.stores.specs.Stores.{fits, filled};
 
 // Whether so many bytes from a place on lie in a buffer of `room` bytes.
+#[tactic(auto, using(std::proofs::lemmas::Bool::Decides::nat_tests), unfolding(crate::specs::Stores::fits))]
 pub fn has_room(room: usize, at: usize, n: usize) -> bool
     ensures { result ≡ fits room at n }
 {
-    if room < at {
-        return false;
-    }
-    if room - at < n {
-        return false;
-    }
-    true
+    at <= room && n <= room - at
 }
 
 // Stores a part at a place, and says whether there was room; where there is none, nothing is stored.
+#[tactic(auto, using(crate::proofs::Room::rooms))]
 pub fn put(buf: &mut [u8], at: usize, part: &[u8]) -> bool
     ensures told { result ≡ fits (length buf.old) at (length part.now) }
     ensures written { buf.new ≡ filled buf.old at part.now }
 {
-    if buf.len() < at {
+    if !has_room(buf.len(), at, part.len()) {
         return false;
     }
-    if buf.len() - at < part.len() {
-        return false;
-    }
-    let mut i = 0;
-    while i < part.len() {
-        buf[at + i] = part[i];
-        i += 1;
-    }
+    buf[at..at + part.len()].copy_from_slice(part);
     true
 }
 
+// Fills a part with the low bytes of a number, low byte first.
+#[tactic(auto, using(words::proofs::Stores::fills, crate::proofs::Turns::bytes_next, crate::proofs::Turns::bytes_none))]
+fn fill_low(part: &mut [u8], v: u32)
+    ensures { part.new ≡ bytes (length part.old) v }
+{
+    let mut rest = v;
+    for byte in part.iter_mut() {
+        *byte = (rest % 256) as u8;
+        rest /= 256;
+    }
+}
+
 // Stores the low bytes of a number, as many as its width, at a place, and says whether there was room; where there is none, nothing is stored.
+#[tactic(auto, using(words::proofs::Words::length_bytes, crate::proofs::Room::rooms))]
 pub fn put_number(buf: &mut [u8], at: usize, width: u8, v: u32) -> bool
     ensures told { result ≡ fits (length buf.old) at width }
     ensures written { buf.new ≡ filled buf.old at (bytes width v) }
 {
-    if buf.len() < at {
+    let n = usize::from(width);
+    if !has_room(buf.len(), at, n) {
         return false;
     }
-    if buf.len() - at < width as usize {
-        return false;
-    }
-    let mut left = width;
-    let mut rest = v;
-    let mut o = at;
-    while 0 < left {
-        buf[o] = (rest % 256) as u8;
-        rest = rest / 256;
-        o += 1;
-        left -= 1;
-    }
+    fill_low(&mut buf[at..at + n], v);
     true
 }

@@ -12,17 +12,10 @@ use genotypes::Gt;
 use record::Reading;
 use values::Refusal;
 
-// What a tally says: counted, with the record's site; or the refusal's number and place.
-#[derive(Clone, Copy)]
-pub enum Counting {
-    Counted(Site),
-    Refused(Refusal),
-}
-
-// A tally: its answer, and the calls beside it. Where it is refused, every counter is 0.
+// A tally: the site of the record that is counted, or the refusal, and the calls beside it. Where it is refused, every counter is 0.
 #[derive(Clone, Copy)]
 pub struct Tallied {
-    pub answer: Counting,
+    pub answer: Result<Site, Refusal>,
     pub calls: Calls,
 }
 
@@ -54,19 +47,20 @@ fn refused_tally(r: Refusal) -> Tallied
     ensures { result ≡ refused_tally r }
 {
     Tallied {
-        answer: Counting::Refused(r),
+        answer: Err(r),
         calls: without_all(0),
     }
 }
 
 // The tally of the record at the start of a slice: its site and the calls; or reading's refusal, or 15 for more than 64 alleles. On a refusal
 // every counter is 0.
+#[tactic(auto, unfolding(crate::specs::Tally::tallied))]
 pub fn tally(s: &[u8], facts: Facts) -> Tallied
     ensures { result ≡ tallied facts s.now }
 {
-    let r = record::read(s, facts);
-    let Reading::Accepted { site, gt } = r else {
-        return refused_tally(record::reading_refusal(r));
+    let Reading { site, gt } = match record::read(s, facts) {
+        Ok(reading) => reading,
+        Err(r) => return refused_tally(r),
     };
     if 64 < site.alleles {
         return refused_tally(Refusal {
@@ -76,7 +70,7 @@ pub fn tally(s: &[u8], facts: Facts) -> Tallied
     }
     let calls = calls_of(s, gt, site.people);
     Tallied {
-        answer: Counting::Counted(site),
+        answer: Ok(site),
         calls,
     }
 }

@@ -20,9 +20,7 @@ use Rattle.types.specs.Elements.{kind, marked, shown, widened}
 use Rattle.types.specs.declared.Element.{Element}
 use Rattle.types.specs.declared.Element.TheVariants.{Plain, Missing as MissingMark, End as EndMark, Reserved}
 use Rattle.vectors.specs.Sound.{highest, code_most}
-use Rattle.vectors.specs.Vectors.{numbers, element_turn, follow, vector, vectors, judged}
-use Rattle.vectors.specs.declared.Judged.TheVariants.{Sound}
-use Rattle.vectors.specs.declared.Turn.TheVariants.{Bad, On}
+use Rattle.vectors.specs.Vectors.{numbers, element_turn, follow, vector, vectors, judged, Sound}
 use Rattle.vectors.proofs.Codes.{code_sound}
 use Rattle.genotypes.specs.declared.Gt.{Gt}
 use Rattle.elements.specs.Elements.{shown_by, code_call}
@@ -35,6 +33,7 @@ use Rattle.tally.specs.Tally.{calls_of}
 use Rattle.tally_laws.specs.Slots.{gt_people, is_slot, slots_of, all_slots, count, slot_call, is_missing, is_allele}
 use Rattle.genotypes.specs.Formats.{gt_part}
 use Rattle.tally_laws.proofs.Gt.{GtSound, length_gt_part}
+use Rattle.std.specs.Prelude.{Option, Some, Err, Ok}
 use Rattle.tally_laws.proofs.Slots.{people_none, slots_people, tally_people}
 
 -- a type of integers, one by one
@@ -56,7 +55,7 @@ unfolding highest
 highest_low t a b = by_integers (λ t. highest t ≤ 0x7FFFFFFF) (omega arith) (omega arith) (omega arith) t a b
 
 -- so a code that is no mark and not negative is called by its number
-plain_call : (t x : ℕ) → 0 < t → t < 4 → x ≤ highest t → slot_call t x ≡ code_call (pos x)
+plain_call : (t x : ℕ) → 0 < t → t < 4 → x ≤ highest t → slot_call t x ≡ Some (code_call (pos x))
 unfolding shown_by kind marked
 plain_call t x a b h =
     let l = highest_low t a b in
@@ -77,14 +76,14 @@ marked_missing missing last x h = by_tests (ltb x missing) (ltb last x) (eqb x m
     by_tests false false false true e h = let z : ◌≡◌ {A = ℕ} 0 1 = cc in absurd (omega arith)
     by_tests false false false false e h = let z : ◌≡◌ {A = ℕ} 0 1 = cc in absurd (omega arith)
 
-missing_call : (t x : ℕ) → 0 < t → t < 4 → kind t x ≡ MissingMark → slot_call t x ≡ Missing false
+missing_call : (t x : ℕ) → 0 < t → t < 4 → kind t x ≡ MissingMark → slot_call t x ≡ Some (Missing false)
 unfolding kind marked shown widened shown_by
 missing_call t x a b h =
-    by_integers (λ t. kind t x ≡ MissingMark → slot_call t x ≡ Missing false) (λ h. rw (marked_missing 0x80 0x87 x h))
+    by_integers (λ t. kind t x ≡ MissingMark → slot_call t x ≡ Some (Missing false)) (λ h. rw (marked_missing 0x80 0x87 x h))
     (λ h. rw (marked_missing 0x8000 0x8007 x h)) (λ h. rw (marked_missing 0x80000000 0x80000007 x h)) t a b h
 
 -- what a counter counts: 0 missing alleles, 1 + i the allele i
-abbrev pub says : ℕ → Call → Bool
+abbrev pub says : ℕ → Option Call → Bool
 says zero c = is_missing c
 says (suc i) c = is_allele i c
 
@@ -92,16 +91,16 @@ one_less : (h i : ℕ) (b : Bool) → eqb (suc h - 1) i ≡ b → b ≡ eqb (suc
 one_less h i true e = let q = eqb-true (suc h - 1) i e in sym (eq-eqb (suc i) (suc h) (omega arith))
 one_less h i false e = let q = eqb-false (suc h - 1) i e in sym (ne_eqb (suc i) (suc h) (λ z. q (omega arith)))
 
-code_says : (k x : ℕ) → says k (code_call (pos x)) ≡ eqb k (x / 2)
+code_says : (k x : ℕ) → says k (Some (code_call (pos x))) ≡ eqb k (x / 2)
 unfolding code_call
 code_says zero x = by_half (x / 2)
   where
-    by_half : (h : ℕ) → is_missing (pick (eqb h 0) (Missing (eqb (x % 2) 1)) (Allele (h - 1) (eqb (x % 2) 1))) ≡ eqb 0 h
+    by_half : (h : ℕ) → is_missing (Some (pick (eqb h 0) (Missing (eqb (x % 2) 1)) (Allele (h - 1) (eqb (x % 2) 1)))) ≡ eqb 0 h
     by_half zero = refl
     by_half (suc h) = rw (ne_eqb (suc h) 0 (λ e. omega arith), ne_eqb 0 (suc h) (λ e. omega arith))
 code_says (suc i) x = by_half (x / 2)
   where
-    by_half : (h : ℕ) → is_allele i (pick (eqb h 0) (Missing (eqb (x % 2) 1)) (Allele (h - 1) (eqb (x % 2) 1))) ≡ eqb (suc i) h
+    by_half : (h : ℕ) → is_allele i (Some (pick (eqb h 0) (Missing (eqb (x % 2) 1)) (Allele (h - 1) (eqb (x % 2) 1)))) ≡ eqb (suc i) h
     by_half zero = rw (ne_eqb (suc i) 0 (λ e. omega arith))
     by_half (suc h) = rw (ne_eqb (suc h) 0 (λ e. omega arith)) (one_less h i (eqb (suc h - 1) i) refl)
 
@@ -111,7 +110,7 @@ slot_says : (alleles t k x : ℕ) → 0 < t → t < 4 → (kind t x ≡ MissingM
 unfolding allele_of
 slot_says alleles t k x a b (inl h) = rw (missing_call t x a b h, h) (mark-says k)
   where
-    mark-says : (k : ℕ) → says k (Missing false) ≡ eqb k 0
+    mark-says : (k : ℕ) → says k (Some (Missing false)) ≡ eqb k 0
     mark-says zero = refl
     mark-says (suc i) = rw (ne_eqb (suc i) 0 (λ e. omega arith))
 slot_says alleles t k x a b (inr h) =
@@ -148,7 +147,7 @@ vector_count most t w at e f g (x ∷ xs) a h = by_kind (kind t x) e refl h (λ 
     counted : f x ≡ g x → count f (slots_of t xs) ≡ count g (slots_of t xs) → count f (x ∷ slots_of t xs) ≡ count g (x ∷ slots_of t xs)
     counted p q = rw (p, q)
 
-    by_most : (q : Bool) → ltb most x ≡ q → kind t x ≡ Plain → follow at (pick q (Bad 10) (On false)) (λ b. vector most t w (at + w) b xs) ≡ Sound → Rest
+    by_most : (q : Bool) → ltb most x ≡ q → kind t x ≡ Plain → follow at (pick q (Err 10) (Ok false)) (λ b. vector most t w (at + w) b xs) ≡ Sound → Rest
         → count f (x ∷ slots_of t xs) ≡ count g (x ∷ slots_of t xs)
     by_most true p k r on = refused _ r
     by_most false p k r on = counted (a x (inr (k, ltb-false most x p))) (on false r)

@@ -14,17 +14,13 @@ use Rattle.words.specs.Words.{Bytes}
 use Rattle.words.proofs.Places.{drop_on}
 use Rattle.types.specs.Rows.{row_of, width_of, allowed}
 use Rattle.types.specs.declared.Use.TheVariants.{Gt as GtUse}
-use Rattle.values.specs.declared.Value.TheVariants.{Present}
 use Rattle.vectors.specs.Sound.{code_most, sound}
-use Rattle.vectors.specs.Vectors.{judged, vectors}
-use Rattle.vectors.specs.declared.Judged.TheVariants.{Sound}
+use Rattle.vectors.specs.Vectors.{judged, vectors, Sound}
 use Rattle.facts.specs.declared.Facts.{Facts}
 use Rattle.fixed.specs.declared.Site.{Site}
 use Rattle.genotypes.specs.Formats.{formats, role_of, gt_now, gt_at, no_gt, gt_part}
 use Rattle.genotypes.specs.declared.Gt.{Gt}
-use Rattle.genotypes.specs.declared.Genotypes.TheVariants.{Sound as Blocked}
-use Rattle.record.specs.Reading.{reading, genotypes_of}
-use Rattle.record.specs.declared.Reading.TheVariants.{Accepted}
+use Rattle.record.specs.Reading.{reading, genotypes_of, accepted_as}
 use Rattle.record.proofs.Accepted.{accepted}
 use Rattle.fetch.proofs.Inside.{drop_past}
 use Rattle.fetch_laws.proofs.Agree.{sound_there, sound_judged}
@@ -35,6 +31,8 @@ use Rattle.choose_laws.proofs.Blocks.{formats_ended}
 use Rattle.choose_laws.proofs.Filled.{opened}
 use Rattle.choose_laws.proofs.Stored.{Bytes_drop, Bytes_take}
 use Rattle.keeps_laws.proofs.Elements.{by_wide}
+use Rattle.std.specs.Prelude.{Ok}
+use Rattle.values.specs.Answers.{whole}
 use Rattle.keeps_laws.proofs.Descriptors.{Stands, empty, filled, described_long}
 
 pub record GtSound (people alleles : ℕ) (s : List ℕ) (g : Gt) : Type 0 where
@@ -75,7 +73,7 @@ field_sound strings people gt alleles n earlier known at s b i j role =
     let c = j.later in
     let o = rw (length-drop at s) at j.inside in
     let e = j.ends in
-    let value : sound people alleles GtUse j.next l ≡ Present j.code j.len j.first j.stop = rw role at j.value in
+    let value : sound people alleles GtUse j.next l ≡ whole j.code j.len j.first j.stop = rw role at j.value in
     let there = sound_there people alleles GtUse j.next l j.code j.len j.first j.stop value in
     let typed = present_typed people GtUse j.next l j.code j.len j.first j.stop there in
     let stands = described_long GtUse j.next l j.code j.len j.first typed.descriptor (Bytes_drop (j.next - at) (drop at s) (Bytes_drop at s b)) in
@@ -104,7 +102,7 @@ now_sound people alleles s key gt x y f h = by_key (eqb key gt) refl
     by_key false e = h
 
 formats_sound : (strings people gt alleles n : ℕ) (earlier : List ℕ) (known : Gt) (at : ℕ) (s : List ℕ) {g : Gt} → Bytes s → at ≤ length s
-    → GtSound people alleles s known → formats strings people gt alleles n earlier known at (drop at s) ≡ Blocked g → GtSound people alleles s g
+    → GtSound people alleles s known → formats strings people gt alleles n earlier known at (drop at s) ≡ Ok g → GtSound people alleles s g
 formats_sound strings people gt alleles zero earlier known at s b i k h =
     rw (formats_ended strings people gt alleles earlier known at (drop at s) h) at k
 formats_sound strings people gt alleles (suc n) earlier known at s b i k h =
@@ -118,7 +116,7 @@ formats_sound strings people gt alleles (suc n) earlier known at s b i k h =
     (now_sound people alleles s j.key gt _ known (field_sound strings people gt alleles n earlier known at s b i j) k) (rw p at j.on)
 
 -- the law
-pub accepted_gt_sound : (f : Facts) (s : List ℕ) (t : Site) (g : Gt) → Bytes s → reading f s ≡ Accepted t g → GtSound t.people t.alleles s g
+pub accepted_gt_sound : (f : Facts) (s : List ℕ) (t : Site) (g : Gt) → Bytes s → reading f s ≡ accepted_as t g → GtSound t.people t.alleles s g
 unfolding genotypes_of
 accepted_gt_sound f s t g b h =
     let o = opened f s t g h in

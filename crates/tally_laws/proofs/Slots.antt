@@ -14,9 +14,7 @@ use Rattle.types.specs.Elements.{kind}
 use Rattle.types.specs.declared.Element.{Element}
 use Rattle.types.specs.declared.Element.TheVariants.{Plain, Missing, End, Reserved}
 use Rattle.vectors.specs.Sound.{code_most}
-use Rattle.vectors.specs.Vectors.{numbers, element_turn, follow, vector, vectors, judged}
-use Rattle.vectors.specs.declared.Judged.TheVariants.{Sound}
-use Rattle.vectors.specs.declared.Turn.TheVariants.{Bad, On}
+use Rattle.vectors.specs.Vectors.{numbers, element_turn, follow, vector, vectors, judged, Sound}
 use Rattle.genotypes.specs.Formats.{gt_part}
 use Rattle.genotypes.specs.declared.Gt.{Gt}
 use Rattle.calls.specs.Calls.{before, slots, alleles, people, called, no_slot, without, people_tally, people_of}
@@ -28,6 +26,7 @@ use Rattle.tally.specs.Tally.{calls_of, nobody}
 use Rattle.tally.proofs.Parts.{calls_of_none, calls_of_part}
 use Rattle.choose_laws.proofs.Divided.{counted_people}
 use Rattle.tally_laws.specs.Slots.{gt_people, is_slot, slots_of, all_slots, is_some, count}
+use Rattle.std.specs.Prelude.{Err, Ok}
 use Rattle.tally_laws.proofs.Gt.{GtSound, length_gt_part}
 
 -- in a vector that is sound nothing but ends follows an end
@@ -52,7 +51,7 @@ vector_slots most t w at (x ∷ xs) h = by_kind (kind t x) h (λ e. ap (λ ys. x
     Rest : Type 0
     Rest = vector most t w (at + w) false xs ≡ Sound → x ∷ slots t xs ≡ x ∷ slots_of t xs
 
-    by_most : (b : Bool) → follow at (pick b (Bad 10) (On false)) (λ b. vector most t w (at + w) b xs) ≡ Sound → Rest → x ∷ slots t xs ≡ x ∷ slots_of t xs
+    by_most : (b : Bool) → follow at (pick b (Err 10) (Ok false)) (λ b. vector most t w (at + w) b xs) ≡ Sound → Rest → x ∷ slots t xs ≡ x ∷ slots_of t xs
     by_most true e on = refused _ e
     by_most false e on = on e
 

@@ -1,6 +1,6 @@
 -- GT's elements of each person, which of them are slots, and what a slot says. An element is a slot because it is no end of vector, wherever it stands.
 -- Rests on where GT stands, on types' kinds of element and on what a code of GT says.
-use Rattle.std.specs.Prelude.{ℕ, ◌+◌, List, [], ◌∷◌, ◌++◌, Bool, true, false, eqb}
+use Rattle.std.specs.Prelude.{ℕ, Option, None, Some, ◌+◌, List, [], ◌∷◌, ◌++◌, Bool, true, false, eqb}
 use Rattle.words.specs.Pick.{pick}
 use Rattle.types.specs.Rows.{width_of}
 use Rattle.types.specs.Elements.{kind, shown}
@@ -10,7 +10,7 @@ use Rattle.genotypes.specs.Formats.{gt_part}
 use Rattle.genotypes.specs.declared.Gt.{Gt}
 use Rattle.elements.specs.Elements.{shown_by, call_shown}
 use Rattle.elements.specs.declared.Call.{Call}
-use Rattle.elements.specs.declared.Call.TheVariants.{Allele, Missing, End, NoCall, Nothing}
+use Rattle.elements.specs.declared.Call.TheVariants.{Allele, Missing, End, NoCall}
 use Rattle.calls.specs.Calls.{people}
 
 -- each person's elements of GT, as the numbers of their bytes; where there is no GT, or it has no length, nobody has any
@@ -44,20 +44,20 @@ count test [] = 0
 count test (x ∷ xs) = pick (test x) 1 0 + count test xs
 
 -- what a slot says: the call of its shown number
-abbrev pub slot_call : ℕ → ℕ → Call
+abbrev pub slot_call : ℕ → ℕ → Option Call
 slot_call t x = call_shown (shown_by t (shown t x))
 
 -- whether a call is a missing allele, or the allele of a number
-abbrev pub is_missing : Call → Bool
-is_missing (Missing phased) = true
-is_missing (Allele number phased) = false
-is_missing End = false
-is_missing NoCall = false
-is_missing Nothing = false
+abbrev pub is_missing : Option Call → Bool
+is_missing (Some (Missing phased)) = true
+is_missing (Some (Allele number phased)) = false
+is_missing (Some End) = false
+is_missing (Some NoCall) = false
+is_missing None = false
 
-abbrev pub is_allele : ℕ → Call → Bool
-is_allele i (Allele number phased) = eqb number i
-is_allele i (Missing phased) = false
-is_allele i End = false
-is_allele i NoCall = false
-is_allele i Nothing = false
+abbrev pub is_allele : ℕ → Option Call → Bool
+is_allele i (Some (Allele number phased)) = eqb number i
+is_allele i (Some (Missing phased)) = false
+is_allele i (Some End) = false
+is_allele i (Some NoCall) = false
+is_allele i None = false

@@ -3,99 +3,62 @@
 #![tactic(auto)]
 
 ghost use Rattle.std.specs.Prelude.{◌≡◌, ◌+◌, ◌*◌, ◌≤◌, leb, drop, length};
-ghost use Rattle.values.specs.Answers.{refusal_in, integer_says, descriptor_says, value_says, IntegerInside, DescriptorInside, ValueInside};
+ghost use Rattle.values.specs.Answers.{refusal_of, IntegerInside, DescriptorInside, ValueInside};
 ghost use Rattle.values.specs.Values.{integer, true_length, keyed, may_stand, described, present};
 
 use types::Use;
 
 // Why something is refused: 01's number, and the place, a byte offset.
-#[derive(Clone, Copy)]
+#[derive(Clone, Copy, Debug, PartialEq, Eq)]
 pub struct Refusal {
     pub number: u32,
     pub place: usize,
 }
 
 // One integer with a descriptor of its own: the 32 bits that it is shown by, and the place after it.
-#[derive(Clone, Copy)]
-pub enum Integer {
-    One { bits: u32, next: usize },
-    Refused(Refusal),
+#[derive(Clone, Copy, Debug, PartialEq, Eq)]
+pub struct Integer {
+    pub bits: u32,
+    pub next: usize,
 }
 
 // A descriptor: the type, the length and the place of the first element. A bare 00 is a type of its own, 0, of length 0.
-#[derive(Clone, Copy)]
-pub enum Descriptor {
-    Typed { code: u8, len: u32, first: usize },
-    Refused(Refusal),
+#[derive(Clone, Copy, Debug, PartialEq, Eq)]
+pub struct Descriptor {
+    pub code: u8,
+    pub len: u32,
+    pub first: usize,
 }
 
-// A value with all its elements: the descriptor's answer, and the place after the last element.
-#[derive(Clone, Copy)]
-pub enum Value {
-    Present {
-        code: u8,
-        len: u32,
-        first: usize,
-        stop: usize,
-    },
-    Refused(Refusal),
+// A value with all its elements: what its descriptor says, and the place after the last element.
+#[derive(Clone, Copy, Debug, PartialEq, Eq)]
+pub struct Value {
+    pub code: u8,
+    pub len: u32,
+    pub first: usize,
+    pub stop: usize,
 }
 
-// The refusal that an integer's answer says; number 0 where it says none.
-pub fn integer_refusal(i: Integer) -> Refusal
-    ensures { result ≡ refusal_in (integer_says i) }
+// The refusal that an answer says, whatever was asked for; number 0 where it says none.
+pub fn refusal_of<T: Drop>(answer: Result<T, Refusal>) -> Refusal
+    ensures { result ≡ refusal_of answer }
 {
-    match i {
-        Integer::One { bits: _, next: _ } => Refusal {
+    match answer {
+        Ok(_) => Refusal {
             number: 0,
             place: 0,
         },
-        Integer::Refused(r) => r,
-    }
-}
-
-// The refusal that a descriptor's answer says; number 0 where it says none.
-pub fn descriptor_refusal(d: Descriptor) -> Refusal
-    ensures { result ≡ refusal_in (descriptor_says d) }
-{
-    match d {
-        Descriptor::Typed {
-            code: _,
-            len: _,
-            first: _,
-        } => Refusal {
-            number: 0,
-            place: 0,
-        },
-        Descriptor::Refused(r) => r,
-    }
-}
-
-// The refusal that a value's answer says; number 0 where it says none.
-pub fn value_refusal(v: Value) -> Refusal
-    ensures { result ≡ refusal_in (value_says v) }
-{
-    match v {
-        Value::Present {
-            code: _,
-            len: _,
-            first: _,
-            stop: _,
-        } => Refusal {
-            number: 0,
-            place: 0,
-        },
-        Value::Refused(r) => r,
+        Err(r) => r,
     }
 }
 
 // One integer with a descriptor of its own, 11, 12 or 13, as a key and a true length are: its bits and the place after it; or 3, 6, 3 in this order.
-pub fn integer_at(block: &[u8], at: usize) -> Integer
+pub fn integer_at(block: &[u8], at: usize) -> Result<Integer, Refusal>
     ensures value { result ≡ integer at (drop at block.now) }
     ensures integer_inside { IntegerInside at (length block.now) result }
 {
     if block.len() <= at {
-        return Integer::Refused(Refusal {
+        return Err(Refusal {
             number: 3,
             place: at,
         });
@@ -109,66 +72,62 @@ pub fn integer_at(block: &[u8], at: usize) -> Integer
             let rest = block.len() - first;
             let w = row.width as usize;
             if rest < w {
-                return Integer::Refused(Refusal {
+                return Err(Refusal {
                     number: 3,
                     place: first + rest,
                 });
             }
             let stop = first + w;
             let bits = types::shown_bits(code, words::word(&block[first..stop]));
-            return Integer::One { bits, next: stop };
+            return Ok(Integer { bits, next: stop });
         }
-        return Integer::Refused(Refusal {
+        return Err(Refusal {
             number: 6,
             place: at,
         });
     }
-    Integer::Refused(Refusal {
+    Err(Refusal {
         number: 6,
         place: at,
     })
 }
 
 // The true length at a place: one integer of 15 or more. A negative number, so each mark too, is below 15.
-fn true_length(block: &[u8], at: usize) -> Integer
+#[tactic(auto, unfolding(crate::specs::Values::true_length))]
+fn true_length(block: &[u8], at: usize) -> Result<Integer, Refusal>
     ensures value { result ≡ true_length at (drop at block.now) }
     ensures integer_inside { IntegerInside at (length block.now) result }
 {
-    let i = integer_at(block, at);
-    let Integer::One { bits, next } = i else {
-        return i;
-    };
+    let Integer { bits, next } = integer_at(block, at)?;
     if bits < 15 {
-        return Integer::Refused(Refusal {
+        return Err(Refusal {
             number: 7,
             place: at,
         });
     }
     if 0x80000000 <= bits {
-        return Integer::Refused(Refusal {
+        return Err(Refusal {
             number: 7,
             place: at,
         });
     }
-    Integer::One { bits, next }
+    Ok(Integer { bits, next })
 }
 
 // The key at a place: one integer, an offset below the dictionary's size; or the integer's refusals, or 8 at the element.
-pub fn key_at(block: &[u8], at: usize, strings: u32) -> Integer
+#[tactic(auto, unfolding(crate::specs::Values::keyed))]
+pub fn key_at(block: &[u8], at: usize, strings: u32) -> Result<Integer, Refusal>
     ensures value { result ≡ keyed strings at (drop at block.now) }
     ensures integer_inside { IntegerInside at (length block.now) result }
 {
-    let i = integer_at(block, at);
-    let Integer::One { bits, next } = i else {
-        return i;
-    };
+    let Integer { bits, next } = integer_at(block, at)?;
     if words::is_outside(strings, bits) {
-        return Integer::Refused(Refusal {
+        return Err(Refusal {
             number: 8,
             place: at + 1,
         });
     }
-    Integer::One { bits, next }
+    Ok(Integer { bits, next })
 }
 
 // Whether a descriptor's low and high half may stand at a use. Type 0 has no length but 0: it is a bare 00.
@@ -186,12 +145,13 @@ fn may_stand(role: Use, code: u8, n: u8) -> bool
 
 // The descriptor at a place, for a use: type, length and the place of the first element; or 3, 6, and of a true length 3, 6, 3, 7. A bare 00 is
 // type 0, length 0 and the place just after it.
-pub fn descriptor_at(block: &[u8], at: usize, role: Use) -> Descriptor
+#[tactic(auto, unfolding(crate::specs::Values::described))]
+pub fn descriptor_at(block: &[u8], at: usize, role: Use) -> Result<Descriptor, Refusal>
     ensures value { result ≡ described role at (drop at block.now) }
     ensures descriptor_inside { DescriptorInside at (length block.now) result }
 {
     if block.len() <= at {
-        return Descriptor::Refused(Refusal {
+        return Err(Refusal {
             number: 3,
             place: at,
         });
@@ -201,23 +161,20 @@ pub fn descriptor_at(block: &[u8], at: usize, role: Use) -> Descriptor
     let n = d / 16;
     if may_stand(role, code, n) {
         if n < 15 {
-            return Descriptor::Typed {
+            return Ok(Descriptor {
                 code,
                 len: n as u32,
                 first: at + 1,
-            };
+            });
         }
-        let l = true_length(block, at + 1);
-        let Integer::One { bits, next } = l else {
-            return Descriptor::Refused(integer_refusal(l));
-        };
-        return Descriptor::Typed {
+        let Integer { bits, next } = true_length(block, at + 1)?;
+        return Ok(Descriptor {
             code,
             len: bits,
             first: next,
-        };
+        });
     }
-    Descriptor::Refused(Refusal {
+    Err(Refusal {
         number: 6,
         place: at,
     })
@@ -238,27 +195,25 @@ pub fn elements_fit(first: usize, count: usize, w: usize, end: usize) -> bool
 
 // The value at a place with its elements, as many for each of `vectors` people (1 where there are none): the descriptor's answer and the place
 // after the last element; or 3 at the block's end.
-pub fn value_at(block: &[u8], at: usize, role: Use, vectors: u32) -> Value
+#[tactic(auto, unfolding(crate::specs::Values::present))]
+pub fn value_at(block: &[u8], at: usize, role: Use, vectors: u32) -> Result<Value, Refusal>
     ensures value { result ≡ present vectors role at (drop at block.now) }
     ensures value_inside { ValueInside at (length block.now) result }
 {
-    let d = descriptor_at(block, at, role);
-    let Descriptor::Typed { code, len, first } = d else {
-        return Value::Refused(descriptor_refusal(d));
-    };
+    let Descriptor { code, len, first } = descriptor_at(block, at, role)?;
     let end = block.len();
     let count = vectors as usize * len as usize;
     let row = types::row_of(code);
     let w = row.width as usize;
     if elements_fit(first, count, w, end) {
-        return Value::Present {
+        return Ok(Value {
             code,
             len,
             first,
             stop: first + count * w,
-        };
+        });
     }
-    Value::Refused(Refusal {
+    Err(Refusal {
         number: 3,
         place: end,
     })

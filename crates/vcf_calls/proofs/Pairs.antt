@@ -1,15 +1,15 @@
 -- People with two slots of one character each, whose column is four bytes, and with one such slot before an end of vector. Rests on proofs/Words.
-use mathlib.Core.Path.{◌≡◌, refl, ◌∙◌}
+use mathlib.Core.Path.{◌≡◌, refl, sym, ◌∙◌}
 use mathlib.Core.Bool.{Bool, true, false}
 use mathlib.Core.List.{List, [], ◌∷◌, append-nil}
 use Prim.Native.Nat.{ℕ, ◌+◌, ◌-◌, ◌/◌, ◌<◌, ◌≤◌}
 use native.Mathlib.Omega.{arith}
 use lib.Dec.{ltb}
-use lib.ListN.{length, get_or, drop, length-append}
-use lib.Seq.{drop-drop}
+use lib.ListN.{length, get_or, drop, length-append, length-drop}
 use borrow.Author.Tests.{lt-ltb, ltb-true, ltb-false}
 use Rattle.words.specs.Words.{number}
 use Rattle.types.specs.Elements.{widened, shown}
+use Rattle.vectors.proofs.Plain.{width_1}
 use Rattle.decimal.proofs.Decimal.{below_ten}
 use Rattle.elements.proofs.Elements.{byte_number}
 use Rattle.vcf_calls.specs.Words.{slot_word, separator, call_of_number}
@@ -47,27 +47,25 @@ end_narrow : shown 1 0x81 ≡ end_shown
 unfolding shown widened
 end_narrow = refl
 
-pub single_column : (part : List ℕ) (at a : ℕ) → a ≡ get_or part at 0 → 0x81 ≡ get_or part (at + 1) 0 → a < 22 → column_of 1 1 2 (drop at part) ≡ single_text a
+pub single_column : (s : List ℕ) (a : ℕ) → length s ≡ 2 → a ≡ get_or s 0 0 → 0x81 ≡ get_or s 1 0 → a < 22 → column_of 1 s ≡ single_text a
 unfolding column_of single_text
-single_column part at a p q h =
-    let l = drop at part in
-    let e : a ≡ shown 1 (number 1 l) = narrow a h ∙ rw (byte_number part at, p) in
-    let d : shown 1 (number 1 (drop 1 l)) ≡ end_shown = rw (drop-drop 1 at part, byte_number part (at + 1), ← q) end_narrow in
+single_column s a n p q h =
+    let e : a ≡ shown 1 (number 1 s) = narrow a h ∙ rw (byte_number s 0, p) in
+    let d : shown 1 (number 1 (drop 1 s)) ≡ end_shown = rw (byte_number s 1, ← q) end_narrow in
     rw (
-      person_on 1 1 2 l a (omega arith) e (omega arith) (λ z. omega arith),
-      later_end 1 1 1 (drop 1 l) (omega arith) d,
+      person_on 1 1 s a (sym width_1) (omega arith) (omega arith) e (omega arith) (λ z. omega arith),
+      later_end 1 1 (drop 1 s) (sym width_1) (omega arith) (rw length-drop (omega arith)) d,
       append-nil (slot_word (call_of_number a)),
     )
 
-pub pair_column : (part : List ℕ) (at a b : ℕ) → a ≡ get_or part at 0 → b ≡ get_or part (at + 1) 0 → a < 22 → b < 22 → column_of 1 1 2 (drop at part) ≡ pair_text a b
+pub pair_column : (s : List ℕ) (a b : ℕ) → length s ≡ 2 → a ≡ get_or s 0 0 → b ≡ get_or s 1 0 → a < 22 → b < 22 → column_of 1 s ≡ pair_text a b
 unfolding column_of pair_text
-pair_column part at a b p q h k =
-    let l = drop at part in
-    let e : a ≡ shown 1 (number 1 l) = narrow a h ∙ rw (byte_number part at, p) in
-    let d : b ≡ shown 1 (number 1 (drop 1 l)) = narrow b k ∙ rw (drop-drop 1 at part, byte_number part (at + 1), q) in
+pair_column s a b n p q h k =
+    let e : a ≡ shown 1 (number 1 s) = narrow a h ∙ rw (byte_number s 0, p) in
+    let d : b ≡ shown 1 (number 1 (drop 1 s)) = narrow b k ∙ rw (byte_number s 1, q) in
     rw (
-      person_on 1 1 2 l a (omega arith) e (omega arith) (λ z. omega arith),
-      later_on 1 1 1 (drop 1 l) b (omega arith) d (omega arith) (λ z. omega arith),
-      later_none 1 1 (drop 1 (drop 1 l)),
+      person_on 1 1 s a (sym width_1) (omega arith) (omega arith) e (omega arith) (λ z. omega arith),
+      later_on 1 1 (drop 1 s) b (sym width_1) (omega arith) (rw length-drop (omega arith)) d (omega arith) (λ z. omega arith),
+      later_none 1 1 (drop 1 (drop 1 s)) (sym width_1) (rw (length-drop, length-drop) (omega arith)),
       append-nil (slot_word (call_of_number b)),
     )

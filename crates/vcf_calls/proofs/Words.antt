@@ -3,12 +3,15 @@ use mathlib.Core.Path.{◌≡◌, refl, ◌∙◌}
 use mathlib.Core.Logic.{◌≢◌}
 use mathlib.Core.Bool.{Bool, true, false}
 use mathlib.Core.List.{List, [], ◌∷◌, ◌++◌}
-use Prim.Native.Nat.{ℕ, zero, suc, ◌-◌, ◌/◌, ◌%◌, ◌^◌, ◌<◌, ◌≤◌}
+use Prim.Native.Nat.{ℕ, zero, suc, ◌+◌, ◌-◌, ◌/◌, ◌%◌, ◌^◌, ◌<◌, ◌≤◌}
 use native.Mathlib.Omega.{arith}
-use native.Mathlib.Numerals.{sub-one}
+use native.Mathlib.Numerals.{add-one, sub-one}
+use native.Mathlib.Nat.{add-div_left, div-eq_of_lt}
 use lib.Dec.{ltb, eqb}
 use lib.IntN.{pos, negsuc}
-use lib.ListN.{drop, replicate}
+use lib.ListN.{drop, length, length-append, length-drop, replicate}
+use lib.Seq.{drop-append_seam}
+use Rattle.std.proofs.lemmas.List.{take-append-le}
 use mir.Syntax.{w32}
 use mir.Val.{to_z}
 use mir.Facts.{of_z-to_z, to_z_pos}
@@ -19,13 +22,15 @@ use Rattle.words.proofs.Sign.{high}
 use Rattle.types.specs.Elements.{marked, kind, shown}
 use Rattle.types.specs.declared.Element.{Element}
 use Rattle.types.specs.declared.Element.TheVariants.{Plain, Missing as MissingMark, End as EndMark, Reserved}
-use Rattle.vectors.specs.Vectors.{shown_numbers}
+use Rattle.vectors.specs.Vectors.{shown_numbers, elements_of}
+use Rattle.types.specs.Rows.{width_of}
 use Rattle.decimal.specs.Decimal.{decimal}
 use Rattle.elements.specs.Elements.{shown_by, code_call, call_of}
 use Rattle.elements.specs.declared.Call.{Call}
 use Rattle.elements.specs.declared.Call.TheVariants.{Allele, Missing, End}
 use Rattle.pieces.specs.Pieces.{followed, dot}
 use Rattle.vcf_calls.specs.Words.{slot_word, phase_mark, separator, later_words, call_of_number, up_to_end, slot_calls, person_word, genotype_word}
+use Rattle.vcf_calls.specs.Engine.{later_text, person_text}
 
 -- the mark of an end of vector, as it is shown
 abbrev pub end_shown : ℕ
@@ -122,40 +127,53 @@ on_call x b h rest = by_sign (ltb x 2147483648) refl
         let g = ltb-false x 2147483648 e in
         rw (called_as x b, high x g) (mark_on (kind 3 x) (2 ^ 32 - suc x) rest (no_end x h))
 
--- the words of elements one by one: up to the first end of vector
-abbrev pub later_of : ℕ → ℕ → ℕ → List ℕ → List ℕ
-later_of t w n l = later_words (slot_calls (shown_numbers t w n l))
+-- elements one by one: the first of them and those after it; none
+elements_first : (t w : ℕ) (s : List ℕ) → w ≡ width_of t → 0 < w → w ≤ length s
+    → elements_of t (length s) s ≡ shown t (number w s) ∷ elements_of t (length (drop w s)) (drop w s)
+unfolding elements_of shown_numbers
+elements_first t w s e p h =
+    let n : w + length (drop w s) ≡ length s = rw length-drop (omega arith) in
+    let d : length s / w ≡ suc (length (drop w s) / w) = rw n at (add-div_left (length (drop w s)) p) ∙ add-one _ in
+    rw (← e, d)
 
-pub later_none : (t w : ℕ) (l : List ℕ) → later_of t w 0 l ≡ []
-unfolding later_words slot_calls shown_numbers
-later_none t w l = refl
+elements_none : (t w : ℕ) (s : List ℕ) → w ≡ width_of t → length s < w → elements_of t (length s) s ≡ []
+unfolding elements_of shown_numbers
+elements_none t w s e h = rw (← e, div-eq_of_lt h)
 
-pub later_end : (t w n : ℕ) (l : List ℕ) → 0 < n → shown t (number w l) ≡ end_shown → later_of t w n l ≡ []
-unfolding later_words slot_calls shown_numbers
-later_end t w zero l h e = refl
-later_end t w (suc n) l h e = rw (e, end_call)
+-- what stands at the front of a list taken by chunks
+pub chunk_front : (w : ℕ) (s x rest : List ℕ) → s ≡ x ++ rest → length x ≡ w → (number w s ≡ number w x) × (drop w s ≡ rest) × (w ≤ length s)
+unfolding number
+chunk_front w s x rest e h =
+    let k : w ≤ length x = omega arith in
+    (rw (e, take-append-le w x rest k), rw e (rw h at (drop-append_seam x rest)), rw (e, length-append) (omega arith))
 
-pub later_on : (t w n : ℕ) (l : List ℕ) (x : ℕ) → 0 < n → x ≡ shown t (number w l) → x < 2 ^ 32 → x ≢ end_shown
-    → later_of t w n l ≡ separator (call_of_number x) ∷ (slot_word (call_of_number x) ++ later_of t w (n - 1) (drop w l))
-unfolding later_words slot_calls shown_numbers
-later_on t w zero l x h e b o = absurd (omega arith)
-later_on t w (suc n) l x h e b o = rw (sub-one, ← e, on_call x b o (slot_calls (shown_numbers t w n (drop w l))))
+-- later slots: up to the first end of vector
+pub later_none : (t w : ℕ) (s : List ℕ) → w ≡ width_of t → length s < w → later_text t s ≡ []
+unfolding later_text later_words slot_calls
+later_none t w s e h = rw (elements_none t w s e h)
+
+pub later_end : (t w : ℕ) (s : List ℕ) → w ≡ width_of t → 0 < w → w ≤ length s → shown t (number w s) ≡ end_shown → later_text t s ≡ []
+unfolding later_text later_words slot_calls
+later_end t w s e p h q = rw (elements_first t w s e p h, q, end_call)
+
+pub later_on : (t w : ℕ) (s : List ℕ) (x : ℕ) → w ≡ width_of t → 0 < w → w ≤ length s → x ≡ shown t (number w s) → x < 2 ^ 32 → x ≢ end_shown
+    → later_text t s ≡ separator (call_of_number x) ∷ (slot_word (call_of_number x) ++ later_text t (drop w s))
+unfolding later_text later_words slot_calls
+later_on t w s x e p h q b o = rw (elements_first t w s e p h, ← q, on_call x b o _)
 
 -- a person's word: a dot, or the first slot and the later ones
-pub person_none : (t w : ℕ) (l : List ℕ) → genotype_word (shown_numbers t w 0 l) ≡ dot
-unfolding genotype_word person_word slot_calls shown_numbers
-person_none t w l = refl
+pub person_none : (t w : ℕ) (s : List ℕ) → w ≡ width_of t → length s < w → person_text t s ≡ dot
+unfolding person_text genotype_word person_word slot_calls
+person_none t w s e h = rw (elements_none t w s e h)
 
-pub person_end : (t w n : ℕ) (l : List ℕ) → shown t (number w l) ≡ end_shown → genotype_word (shown_numbers t w n l) ≡ dot
-unfolding genotype_word person_word slot_calls shown_numbers
-person_end t w zero l e = refl
-person_end t w (suc n) l e = rw (e, end_call)
+pub person_end : (t w : ℕ) (s : List ℕ) → w ≡ width_of t → 0 < w → w ≤ length s → shown t (number w s) ≡ end_shown → person_text t s ≡ dot
+unfolding person_text genotype_word person_word slot_calls
+person_end t w s e p h q = rw (elements_first t w s e p h, q, end_call)
 
-pub person_on : (t w n : ℕ) (l : List ℕ) (x : ℕ) → 0 < n → x ≡ shown t (number w l) → x < 2 ^ 32 → x ≢ end_shown
-    → genotype_word (shown_numbers t w n l) ≡ slot_word (call_of_number x) ++ later_of t w (n - 1) (drop w l)
-unfolding genotype_word person_word slot_calls shown_numbers
-person_on t w zero l x h e b o = absurd (omega arith)
-person_on t w (suc n) l x h e b o = rw (sub-one, ← e, on_call x b o (slot_calls (shown_numbers t w n (drop w l))))
+pub person_on : (t w : ℕ) (s : List ℕ) (x : ℕ) → w ≡ width_of t → 0 < w → w ≤ length s → x ≡ shown t (number w s) → x < 2 ^ 32 → x ≢ end_shown
+    → person_text t s ≡ slot_word (call_of_number x) ++ later_text t (drop w s)
+unfolding person_text later_text genotype_word person_word slot_calls
+person_on t w s x e p h q b o = rw (elements_first t w s e p h, ← q, on_call x b o _)
 
 -- a dot for each of some people, one by one
 pub dots_on : (n : ℕ) → 0 < n → followed 0x09 (replicate n dot) ≡ 0x09 ∷ (0x2E ∷ followed 0x09 (replicate (n - 1) dot))

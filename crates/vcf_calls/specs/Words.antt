@@ -3,9 +3,11 @@ use Rattle.std.specs.Prelude.{ℕ, zero, suc, ◌/◌, List, [], ◌∷◌, ◌+
 use Rattle.types.specs.Rows.{width_of}
 use Rattle.vectors.specs.Vectors.{elements_of}
 use Rattle.decimal.specs.Decimal.{decimal}
-use Rattle.elements.specs.Elements.{shown_by, call_shown}
+use Rattle.std.specs.Int.{w32}
+use Rattle.std.proofs.Common.{to_z}
+use Rattle.elements.specs.Elements.{integer_call}
 use Rattle.elements.specs.declared.Call.{Call}
-use Rattle.elements.specs.declared.Call.TheVariants.{Allele, Missing, End, NoCall, Nothing}
+use Rattle.elements.specs.declared.Call.TheVariants.{Allele, Missing, End, NoCall}
 use Rattle.pieces.specs.Pieces.{dot}
 
 -- a slot's word: the number of its allele, or a dot
@@ -14,7 +16,6 @@ slot_word (Allele number phased) = decimal number
 slot_word (Missing phased) = dot
 slot_word End = dot
 slot_word NoCall = dot
-slot_word Nothing = dot
 
 -- what stands before a later slot: `|` where it is phased, else `/`
 abbrev pub phase_mark : Bool → ℕ
@@ -26,7 +27,6 @@ separator (Allele number phased) = phase_mark phased
 separator (Missing phased) = phase_mark phased
 separator End = 0x2F
 separator NoCall = 0x2F
-separator Nothing = 0x2F
 
 -- later slots, each with its own phase before it
 unfoldable pub later_words : List Call → List ℕ
@@ -40,7 +40,7 @@ person_word (c ∷ cs) = slot_word c ++ later_words cs
 
 -- what a number says that GT shows
 unfoldable pub call_of_number : ℕ → Call
-call_of_number x = call_shown (shown_by 3 x)
+call_of_number x = integer_call (to_z w32 x)
 
 -- the calls of a person's slots: those of the elements before the first end of vector
 abbrev pub up_to_end : Call → List Call → List Call
@@ -48,7 +48,6 @@ up_to_end End rest = []
 up_to_end (Allele number phased) rest = Allele number phased ∷ rest
 up_to_end (Missing phased) rest = Missing phased ∷ rest
 up_to_end NoCall rest = NoCall ∷ rest
-up_to_end Nothing rest = Nothing ∷ rest
 
 unfoldable pub slot_calls : List ℕ → List Call
 slot_calls [] = []

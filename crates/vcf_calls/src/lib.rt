@@ -2,13 +2,12 @@
 // Rests on pieces for what is put, and on types for the elements.
 #![tactic(auto)]
 
-ghost use Rattle.std.specs.Prelude.{◌≡◌, [], ◌∷◌, ◌+◌, ◌*◌, ◌<◌, ◌≤◌, length, drop, replicate};
+ghost use Rattle.std.specs.Prelude.{◌≡◌, [], ◌∷◌, ◌<◌, length, replicate};
 ghost use Rattle.std.proofs.lemmas.List.Edits.{sets};
 ghost use Rattle.types.specs.Rows.{width_of};
-ghost use Rattle.vectors.specs.Vectors.{shown_numbers};
 ghost use Rattle.pieces.specs.Pieces.{after, followed, dot};
-ghost use Rattle.vcf_calls.specs.Words.{slot_word, separator, later_words, call_of_number, slot_calls, genotype_word, part_words};
-ghost use Rattle.vcf_calls.specs.Engine.{single_text, pair_text, column_of, columns_of};
+ghost use Rattle.vcf_calls.specs.Words.{slot_word, separator, call_of_number, part_words};
+ghost use Rattle.vcf_calls.specs.Engine.{later_text, person_text, column_of, single_text, pair_text};
 
 // The mark of an end of vector, as it is shown.
 const END: u32 = 0x80000001;
@@ -43,77 +42,49 @@ fn separator_of(x: u32) -> u8
     b'/'
 }
 
-// A person's later slots, up to the first end of vector.
-fn put_later(
-    buf: &mut [u8],
-    to: usize,
-    part: &[u8],
-    from: usize,
-    code: u8,
-    width: u8,
-    len: u32,
-) -> usize
-    requires { (width ≡ width_of code) × (width ≤ 4) × (from + len * width ≤ length part.now) }
-    ensures next { result ≡ after to (length (later_words (slot_calls (shown_numbers code width len (drop from part.now))))) }
-    ensures written { buf.new ≡ sets buf.old to (later_words (slot_calls (shown_numbers code width len (drop from part.now)))) }
+// A person's later slots, given by their elements, up to the first end of vector.
+fn put_later(buf: &mut [u8], to: usize, slots: &[u8], code: u8, width: usize) -> usize
+    requires { (width ≡ width_of code) × (0 < width) }
+    ensures next { result ≡ after to (length (later_text code slots.now)) }
+    ensures written { buf.new ≡ sets buf.old to (later_text code slots.now) }
 {
-    let mut left = len;
-    let mut at = from;
     let mut next = to;
-    while 0 < left {
-        let x = elements::bits_at(part, at, code);
+    for element in slots.chunks_exact(width) {
+        let x = elements::bits_at(element, 0, code);
         if x == END {
             return next;
         }
         next = pieces::put_byte(buf, next, separator_of(x));
         next = put_slot(buf, next, x);
-        at += width as usize;
-        left -= 1;
     }
     next
 }
 
 // A person's slots; a dot where there are none.
-fn put_person(
-    buf: &mut [u8],
-    to: usize,
-    part: &[u8],
-    from: usize,
-    code: u8,
-    width: u8,
-    len: u32,
-) -> usize
-    requires { (width ≡ width_of code) × (width ≤ 4) × (from + len * width ≤ length part.now) }
-    ensures next { result ≡ after to (length (genotype_word (shown_numbers code width len (drop from part.now)))) }
-    ensures written { buf.new ≡ sets buf.old to (genotype_word (shown_numbers code width len (drop from part.now))) }
+fn put_person(buf: &mut [u8], to: usize, person: &[u8], code: u8, width: usize) -> usize
+    requires { (width ≡ width_of code) × (0 < width) }
+    ensures next { result ≡ after to (length (person_text code person.now)) }
+    ensures written { buf.new ≡ sets buf.old to (person_text code person.now) }
 {
-    if len == 0 {
+    if person.len() < width {
         return pieces::put_byte(buf, to, b'.');
     }
-    let x = elements::bits_at(part, from, code);
+    let x = elements::bits_at(person, 0, code);
     if x == END {
         return pieces::put_byte(buf, to, b'.');
     }
     let next = put_slot(buf, to, x);
-    put_later(buf, next, part, from + width as usize, code, width, len - 1)
+    put_later(buf, next, &person[width..], code, width)
 }
 
 // A tab and a person's slots.
-fn put_column(
-    buf: &mut [u8],
-    to: usize,
-    part: &[u8],
-    from: usize,
-    code: u8,
-    width: u8,
-    len: u32,
-) -> usize
-    requires { (width ≡ width_of code) × (width ≤ 4) × (from + len * width ≤ length part.now) }
-    ensures next { result ≡ after to (length (column_of code width len (drop from part.now))) }
-    ensures written { buf.new ≡ sets buf.old to (column_of code width len (drop from part.now)) }
+fn put_column(buf: &mut [u8], to: usize, person: &[u8], code: u8, width: usize) -> usize
+    requires { (width ≡ width_of code) × (0 < width) }
+    ensures next { result ≡ after to (length (column_of code person.now)) }
+    ensures written { buf.new ≡ sets buf.old to (column_of code person.now) }
 {
     let next = pieces::put_byte(buf, to, b'\t');
-    put_person(buf, next, part, from, code, width, len)
+    put_person(buf, next, person, code, width)
 }
 
 // The word of a code that is told by one character: a dot, or a digit.
@@ -171,66 +142,38 @@ fn put_single(buf: &mut [u8], to: usize, code: u8) -> usize
     pieces::put_byte(buf, next, a)
 }
 
-// A tab and a person's two elements of one byte at a place. Most have two slots of one character each, or one and an end of vector.
-fn put_couple(buf: &mut [u8], to: usize, part: &[u8], at: usize) -> usize
-    requires { at + 1 < length part.now }
-    ensures next { result ≡ after to (length (column_of 1 1 2 (drop at part.now))) }
-    ensures written { buf.new ≡ sets buf.old to (column_of 1 1 2 (drop at part.now)) }
+// A tab and a person's two elements of one byte. Most have two slots of one character each, or one and an end of vector.
+fn put_couple(buf: &mut [u8], to: usize, person: &[u8]) -> usize
+    requires { length person.now ≡ 2 }
+    ensures next { result ≡ after to (length (column_of 1 person.now)) }
+    ensures written { buf.new ≡ sets buf.old to (column_of 1 person.now) }
 {
-    let first = part[at];
-    let second = part[at + 1];
+    let first = person[0];
+    let second = person[1];
     if 22 <= first {
-        return put_column(buf, to, part, at, 1, 1, 2);
+        return put_column(buf, to, person, 1, 1);
     }
     if second == 0x81 {
         return put_single(buf, to, first);
     }
     if 22 <= second {
-        return put_column(buf, to, part, at, 1, 1, 2);
+        return put_column(buf, to, person, 1, 1);
     }
     put_pair(buf, to, first, second)
 }
 
-// The columns of so many people with two elements of one byte each.
-fn put_couples(buf: &mut [u8], to: usize, part: &[u8], count: usize) -> usize
-    requires { count * 2 ≤ length part.now }
-    ensures next { result ≡ after to (length (columns_of 1 1 2 count part.now)) }
-    ensures written { buf.new ≡ sets buf.old to (columns_of 1 1 2 count part.now) }
+// A person's column; two elements of one byte have a shorter way.
+fn put_any(buf: &mut [u8], to: usize, person: &[u8], code: u8, width: usize) -> usize
+    requires { (width ≡ width_of code) × (0 < width) }
+    ensures next { result ≡ after to (length (column_of code person.now)) }
+    ensures written { buf.new ≡ sets buf.old to (column_of code person.now) }
 {
-    let mut left = count;
-    let mut at = 0;
-    let mut next = to;
-    while 0 < left {
-        next = put_couple(buf, next, part, at);
-        at += 2;
-        left -= 1;
+    if code == 1 {
+        if person.len() == 2 {
+            return put_couple(buf, to, person);
+        }
     }
-    next
-}
-
-// The columns of so many people.
-fn put_columns(
-    buf: &mut [u8],
-    to: usize,
-    part: &[u8],
-    code: u8,
-    width: u8,
-    len: u32,
-    count: usize,
-) -> usize
-    requires { (width ≡ width_of code) × (width ≤ 4) × (count * (len * width) ≤ length part.now) }
-    ensures next { result ≡ after to (length (columns_of code width len count part.now)) }
-    ensures written { buf.new ≡ sets buf.old to (columns_of code width len count part.now) }
-{
-    let mut left = count;
-    let mut at = 0;
-    let mut next = to;
-    while 0 < left {
-        next = put_column(buf, next, part, at, code, width, len);
-        at += len as usize * width as usize;
-        left -= 1;
-    }
-    next
+    put_column(buf, to, person, code, width)
 }
 
 // A dot for each of so many people.
@@ -238,12 +181,10 @@ pub fn put_dots(buf: &mut [u8], at: usize, people: u32) -> usize
     ensures next { result ≡ after at (length (followed 0x09 (replicate people dot))) }
     ensures written { buf.new ≡ sets buf.old at (followed 0x09 (replicate people dot)) }
 {
-    let mut left = people;
     let mut next = at;
-    while 0 < left {
+    for _ in 0..people {
         next = pieces::put_byte(buf, next, b'\t');
         next = pieces::put_byte(buf, next, b'.');
-        left -= 1;
     }
     next
 }
@@ -253,14 +194,14 @@ pub fn put_calls(buf: &mut [u8], to: usize, part: &[u8], code: u8, len: u32) -> 
     ensures next { result ≡ after to (length (followed 0x09 (part_words code len part.now))) }
     ensures written { buf.new ≡ sets buf.old to (followed 0x09 (part_words code len part.now)) }
 {
-    let row = types::row_of(code);
-    let width = row.width;
-    let count = words::over(words::over(part.len(), width as usize), len as usize);
-    if code == 1 {
-        if len == 2 {
-            return put_couples(buf, to, part, count);
-        }
-        return put_columns(buf, to, part, code, width, len, count);
+    let width = usize::from(types::row_of(code).width);
+    let size = len as usize * width;
+    if size == 0 {
+        return to;
     }
-    put_columns(buf, to, part, code, width, len, count)
+    let mut next = to;
+    for person in part.chunks_exact(size) {
+        next = put_any(buf, next, person, code, width);
+    }
+    next
 }

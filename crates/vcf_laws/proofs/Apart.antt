@@ -16,8 +16,7 @@ use Rattle.positions.specs.Positions.{pos_of, one_based}
 use Rattle.fixed.specs.declared.Site.{Site}
 use Rattle.genotypes.specs.declared.Gt.{Gt}
 use Rattle.shown.specs.Shown.{Shown}
-use Rattle.record.specs.Reading.{reading}
-use Rattle.record.specs.declared.Reading.TheVariants.{Accepted}
+use Rattle.record.specs.Reading.{reading, accepted_as}
 use Rattle.contents.specs.Contents.{shown_of}
 use Rattle.build_laws.specs.Records.{All}
 use Rattle.record_laws.specs.Rules.{Rules}
@@ -124,7 +123,7 @@ line_five gt people string contig r = refl
 
 -- the law: two accepted records that print alike, whatever their facts and their string names are
 pub apart : (f₁ f₂ : Facts) (strings₁ strings₂ contigs : Names) (s₁ s₂ : List ℕ) (t₁ t₂ : Site) (g₁ g₂ : Gt) (l : List ℕ) → Bytes s₁ → Bytes s₂
-    → reading f₁ s₁ ≡ Accepted t₁ g₁ → reading f₂ s₂ ≡ Accepted t₂ g₂ → printed f₁ strings₁ contigs s₁ ≡ line l → printed f₂ strings₂ contigs s₂ ≡ line l
+    → reading f₁ s₁ ≡ accepted_as t₁ g₁ → reading f₂ s₂ ≡ accepted_as t₂ g₂ → printed f₁ strings₁ contigs s₁ ≡ line l → printed f₂ strings₂ contigs s₂ ≡ line l
     → EachWithout 0x09 f₁.contigs (names_of contigs) → EachWithout 0x09 f₂.contigs (names_of contigs)
     → Distinct f₁.contigs f₂.contigs (names_of contigs) → Clear (shown_of t₁ s₁) → Clear (shown_of t₂ s₂) → Same (shown_of t₁ s₁) (shown_of t₂ s₂)
 apart f₁ f₂ strings₁ strings₂ contigs s₁ s₂ t₁ t₂ g₁ g₂ l b₁ b₂ h₁ h₂ p₁ p₂ n₁ n₂ names c₁ c₂ =
@@ -156,7 +155,7 @@ clear_alleles (x ∷ xs) h k = (record { comma = h.0; dotless = k.0 }, clear_all
 
 -- the law in 02's words
 pub told_apart : (f₁ f₂ : Facts) (strings₁ strings₂ contigs : Names) (s₁ s₂ : List ℕ) (t₁ t₂ : Site) (g₁ g₂ : Gt) (l : List ℕ) → Bytes s₁ → Bytes s₂
-    → reading f₁ s₁ ≡ Accepted t₁ g₁ → reading f₂ s₂ ≡ Accepted t₂ g₂ → printed f₁ strings₁ contigs s₁ ≡ line l → printed f₂ strings₂ contigs s₂ ≡ line l
+    → reading f₁ s₁ ≡ accepted_as t₁ g₁ → reading f₂ s₂ ≡ accepted_as t₂ g₂ → printed f₁ strings₁ contigs s₁ ≡ line l → printed f₂ strings₂ contigs s₂ ≡ line l
     → ((c : Condition) → Holds c f₁.contigs f₂.contigs contigs (shown_of t₁ s₁) (shown_of t₂ s₂)) → Same (shown_of t₁ s₁) (shown_of t₂ s₂)
 unfolding name_of
 told_apart f₁ f₂ strings₁ strings₂ contigs s₁ s₂ t₁ t₂ g₁ g₂ l b₁ b₂ h₁ h₂ p₁ p₂ c =

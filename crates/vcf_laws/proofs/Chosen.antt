@@ -15,8 +15,7 @@ use Rattle.facts.specs.declared.Facts.{Facts}
 use Rattle.fixed.specs.declared.Site.{Site}
 use Rattle.genotypes.specs.declared.Gt.{Gt}
 use Rattle.shown.specs.Shown.{Shown, Field}
-use Rattle.record.specs.Reading.{reading}
-use Rattle.record.specs.declared.Reading.TheVariants.{Accepted}
+use Rattle.record.specs.Reading.{reading, accepted_as}
 use Rattle.fetch_laws.proofs.There.{accepted_people}
 use Rattle.contents.specs.Contents.{shown_of}
 use Rattle.choice.specs.Choice.{ascending_from, ascending, chosen_parts}
@@ -99,7 +98,7 @@ unfolding vcf_line site_columns
 released_line gt people n string contig cs r e = rw e
 
 -- the law
-pub chosen_line : (f : Facts) (strings contigs : Names) (s : List ℕ) (t : Site) (g : Gt) (cs l : List ℕ) → Bytes s → reading f s ≡ Accepted t g
+pub chosen_line : (f : Facts) (strings contigs : Names) (s : List ℕ) (t : Site) (g : Gt) (cs l : List ℕ) → Bytes s → reading f s ≡ accepted_as t g
     → ascending t.people cs ≡ true → printed f strings contigs s ≡ line l → ChosenLine f strings contigs s t cs l
 unfolding printed vcf_line
 chosen_line f strings contigs s t g cs l b h a p =

@@ -15,14 +15,13 @@ use Rattle.decimal.specs.Decimal.{decimal}
 use Rattle.decimal.proofs.Digits.{digits_only}
 use Rattle.shown.specs.Shown.{Field}
 use Rattle.elements.specs.declared.Call.{Call}
-use Rattle.elements.specs.declared.Call.TheVariants.{Allele, Missing, End, NoCall, Nothing}
+use Rattle.elements.specs.declared.Call.TheVariants.{Allele, Missing, End, NoCall}
 use Rattle.build_laws.specs.Records.{All}
 use Rattle.record_laws.specs.Rules.{Between, AlleleRules}
 use Rattle.pieces.specs.Pieces.{followed, joined_by, dot, listed, or_dot}
 use Rattle.pieces.proofs.Joined.{Free, among_append}
 use Rattle.vcf_qual.specs.Qual.{missing_qual, whole_text, whole_of, qual_text}
-use Rattle.vcf_qual.specs.declared.Whole.{Whole}
-use Rattle.vcf_qual.specs.declared.Whole.TheVariants.{Number, Other}
+use Rattle.std.specs.Prelude.{Option, Some, None}
 use Rattle.vcf_calls.specs.Words.{slot_word, phase_mark, separator, later_words, person_word, slot_calls, genotype_word, vectors_of, call_words}
 use Rattle.vcf_site.specs.Columns.{pos_text}
 use Rattle.vcf_line.specs.Line.{ref_text, alt_text, filter_text, call_columns}
@@ -110,10 +109,10 @@ pub without_qual : (c q : ℕ) → c < 0x21 → Without c (qual_text q)
 unfolding qual_text
 without_qual c q h = by-test (eqb q missing_qual) (whole_of q)
   where
-    by-test : (b : Bool) (w : Whole) → Without c (pick b dot (whole_text w))
+    by-test : (b : Bool) (w : Option ℕ) → Without c (pick b dot (whole_text w))
     by-test true w = without_dot c (λ e. omega arith)
-    by-test false (Number n) = without_decimal c n h
-    by-test false Other = without_nil c
+    by-test false (Some n) = without_decimal c n h
+    by-test false None = without_nil c
 
 -- a call's slots: digits and dots, `/` and `|`
 without_slot : (c : ℕ) (x : Call) → c < 0x21 → Without c (slot_word x)
@@ -121,7 +120,6 @@ without_slot c (Allele n p) h = without_decimal c n h
 without_slot c (Missing p) h = without_dot c (λ e. omega arith)
 without_slot c End h = without_dot c (λ e. omega arith)
 without_slot c NoCall h = without_dot c (λ e. omega arith)
-without_slot c Nothing h = without_dot c (λ e. omega arith)
 
 mark : (c : ℕ) (p : Bool) → c < 0x21 → phase_mark p ≢ c
 mark c true h e = omega arith
@@ -132,7 +130,6 @@ no_separator c (Allele n p) h e = mark c p h e
 no_separator c (Missing p) h e = mark c p h e
 no_separator c End h e = omega arith
 no_separator c NoCall h e = omega arith
-no_separator c Nothing h e = omega arith
 
 without_later : (c : ℕ) (xs : List Call) → c < 0x21 → Without c (later_words xs)
 unfolding later_words

@@ -9,8 +9,7 @@ use Rattle.values.specs.declared.Refusal.{Refusal}
 use Rattle.facts.specs.declared.Facts.{Facts}
 use Rattle.fixed.specs.declared.Site.{Site}
 use Rattle.genotypes.specs.declared.Gt.{Gt}
-use Rattle.record.specs.Reading.{reading}
-use Rattle.record.specs.declared.Reading.TheVariants.{Accepted}
+use Rattle.record.specs.Reading.{reading, accepted_as}
 use Rattle.contents.specs.Contents.{shown_of}
 use Rattle.vcf_qual.specs.Qual.{printable}
 use Rattle.vcf_line.specs.Line.{vcf_line, Names, is_short, line, unprinted, printed_as, printed}
@@ -30,10 +29,10 @@ tests true false true q r w l h = let z : ◌≡◌ {A = ℕ} 0 1 = cc in absurd
 tests true false false q r w l h = (refl, refl, refl, cc)
 tests false b c q r w l h = let z : ◌≡◌ {A = ℕ} 0 1 = cc in absurd (omega arith)
 
-pub line_of : (f : Facts) (strings contigs : Names) (s : List ℕ) (t : Site) (g : Gt) (l : List ℕ) → reading f s ≡ Accepted t g
+pub line_of : (f : Facts) (strings contigs : Names) (s : List ℕ) (t : Site) (g : Gt) (l : List ℕ) → reading f s ≡ accepted_as t g
     → printed f strings contigs s ≡ line l → LineOf f strings contigs s t l
 unfolding printed
 line_of f strings contigs s t g l h p =
-    let k : printed_as f strings contigs s (Accepted t g) ≡ line l = rw h at p in
+    let k : printed_as f strings contigs s (accepted_as t g) ≡ line l = rw h at p in
     let x = tests (printable t.qual) (is_short f.strings strings) (is_short f.contigs contigs) _ _ _ l k in
     record { qual = x.0; string_names = x.1; contig_names = x.2; text = x.3 }

@@ -15,8 +15,7 @@ use Rattle.facts.specs.declared.Facts.{Facts}
 use Rattle.fixed.specs.declared.Site.{Site}
 use Rattle.genotypes.specs.declared.Gt.{Gt}
 use Rattle.shown.specs.Shown.{Shown, Field}
-use Rattle.record.specs.Reading.{reading}
-use Rattle.record.specs.declared.Reading.TheVariants.{Accepted}
+use Rattle.record.specs.Reading.{reading, accepted_as}
 use Rattle.contents.specs.Contents.{shown_of}
 use Rattle.calls.specs.Calls.{how_many}
 use Rattle.calls.proofs.Counters.{how_many_append}
@@ -86,7 +85,7 @@ columns_free c f string contig r b h x =
     (x.chrom, (without_pos c r.pos b, (id, (ref, (alt, (without_qual c r.qual b, (filters, (without_dot c o, calls))))))))
 
 -- the law of tabs: 7, and where there is GT one more for FORMAT and one for each person
-pub tabs : (f : Facts) (strings contigs : Names) (s : List ℕ) (t : Site) (g : Gt) (l : List ℕ) → Bytes s → reading f s ≡ Accepted t g
+pub tabs : (f : Facts) (strings contigs : Names) (s : List ℕ) (t : Site) (g : Gt) (l : List ℕ) → Bytes s → reading f s ≡ accepted_as t g
     → printed f strings contigs s ≡ line l → TextsWithout 0x09 (names_of strings) (names_of contigs) (shown_of t s)
     → how_many 0x09 l ≡ pick (has_gt f.gt (shown_of t s)) (8 + f.people) 7
 unfolding how_many
@@ -112,7 +111,7 @@ tabs f strings contigs s t g l b h p x =
     by-test false = refl
 
 -- the law of line feeds: one, which is the last byte
-pub line_feed : (f : Facts) (strings contigs : Names) (s : List ℕ) (t : Site) (g : Gt) (l : List ℕ) → Bytes s → reading f s ≡ Accepted t g
+pub line_feed : (f : Facts) (strings contigs : Names) (s : List ℕ) (t : Site) (g : Gt) (l : List ℕ) → Bytes s → reading f s ≡ accepted_as t g
     → printed f strings contigs s ≡ line l → TextsWithout 0x0A (names_of strings) (names_of contigs) (shown_of t s)
     → (how_many 0x0A l ≡ 1) × (get_or l (length l - 1) 0 ≡ 0x0A)
 unfolding how_many

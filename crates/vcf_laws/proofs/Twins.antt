@@ -29,8 +29,7 @@ use Rattle.site.specs.Alleles.{allele_bytes, allele}
 use Rattle.site.specs.Filters.{filters, filtered, filter}
 use Rattle.site.specs.Site.{info, site}
 use Rattle.genotypes.specs.Formats.{no_gt, role_of, gt_now, format_field, so_many, formats}
-use Rattle.record.specs.Reading.{site_of, genotypes_of, reading}
-use Rattle.record.specs.declared.Reading.TheVariants.{Accepted}
+use Rattle.record.specs.Reading.{site_of, genotypes_of, reading, accepted_as}
 use Rattle.fetch.specs.Fields.{alone, paired}
 use Rattle.fetch.specs.Account.{fields_of, site_kinds, site_fields, genotype_fields, account, of_kind}
 use Rattle.contents.specs.Contents.{elements_at, shown_of}
@@ -143,7 +142,7 @@ twins allele_dots =
 -- what is written of a record is accepted, shows that record, and prints as a line
 pub record Prints (contigs : ℕ) (strings names : Names) (r : Shown) (text : List ℕ) : Type 0 where
   pub are_bytes_lem : Bytes (record_bytes 0 r)
-  pub read : reading (under contigs) (record_bytes 0 r) ≡ Accepted (site_for 0 r) no_gt
+  pub read : reading (under contigs) (record_bytes 0 r) ≡ accepted_as (site_for 0 r) no_gt
   pub shows : shown_of (site_for 0 r) (record_bytes 0 r) ≡ r
   pub prints : printed (under contigs) strings names (record_bytes 0 r) ≡ line text
 
@@ -162,7 +161,7 @@ bytes_tested (b ∷ bs) h = by-test (ltb b 256) refl h (bytes_tested bs)
     by-test false e q on = let z : ◌≡◌ {A = ℕ} 0 1 = cc in absurd (omega arith)
 
 tested : {contigs : ℕ} {strings names : Names} {text : List ℕ} (r : Shown) → are_bytes (record_bytes 0 r) ≡ true
-    → reading (under contigs) (record_bytes 0 r) ≡ Accepted (site_for 0 r) no_gt → shown_of (site_for 0 r) (record_bytes 0 r) ≡ r
+    → reading (under contigs) (record_bytes 0 r) ≡ accepted_as (site_for 0 r) no_gt → shown_of (site_for 0 r) (record_bytes 0 r) ≡ r
     → printed (under contigs) strings names (record_bytes 0 r) ≡ line text → Prints contigs strings names r text
 tested r b h s p = record { are_bytes_lem = bytes_tested (record_bytes 0 r) b; read = h; shows = s; prints = p }
 

@@ -6,8 +6,7 @@ use Rattle.facts.specs.declared.Facts.{Facts}
 use Rattle.fixed.specs.declared.Site.{Site}
 use Rattle.genotypes.specs.declared.Gt.{Gt}
 use Rattle.shown.specs.Shown.{Shown}
-use Rattle.record.specs.Reading.{reading}
-use Rattle.record.specs.declared.Reading.TheVariants.{Accepted}
+use Rattle.record.specs.Reading.{reading, accepted_as}
 use Rattle.contents.specs.Contents.{shown_of}
 use Rattle.build_laws.specs.Records.{All}
 use Rattle.pieces.specs.Pieces.{dot}
@@ -51,8 +50,8 @@ pub record Needed (c : Condition) : Type 0 where
   pub text : List ℕ
   pub bytes₁ : Bytes s₁
   pub bytes₂ : Bytes s₂
-  pub read₁ : reading facts s₁ ≡ Accepted t₁ g₁
-  pub read₂ : reading facts s₂ ≡ Accepted t₂ g₂
+  pub read₁ : reading facts s₁ ≡ accepted_as t₁ g₁
+  pub read₂ : reading facts s₂ ≡ accepted_as t₂ g₂
   pub printed₁ : printed facts strings₁ contigs s₁ ≡ line text
   pub printed₂ : printed facts strings₂ contigs s₂ ≡ line text
   pub others : (d : Condition) → d ≢ c → Holds d facts.contigs facts.contigs contigs (shown_of t₁ s₁) (shown_of t₂ s₂)

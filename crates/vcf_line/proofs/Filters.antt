@@ -8,8 +8,7 @@ use lib.Seq.{take-take, length-take-le}
 use Rattle.facts.specs.declared.Facts.{Facts}
 use Rattle.fixed.specs.declared.Site.{Site}
 use Rattle.genotypes.specs.declared.Gt.{Gt}
-use Rattle.record.specs.Reading.{reading}
-use Rattle.record.specs.declared.Reading.TheVariants.{Accepted}
+use Rattle.record.specs.Reading.{reading, accepted_as}
 use Rattle.fetch.specs.Fields.{FoundInside}
 use Rattle.fetch.specs.Account.{Entry, account, of_kind, numbered}
 use Rattle.fetch.specs.Fetch.{field_of, found}
@@ -37,7 +36,7 @@ one_field string s at end (e ∷ []) h i =
     rw (append-nil (elements_at s e), length-take-le size l r, elements_of_take e.code size (take size l) l (take-take size size l (omega arith)))
 
 -- the law
-pub filters_shown : (f : Facts) (s : List ℕ) (t : Site) (g : Gt) (string : ℕ → List ℕ) → reading f s ≡ Accepted t g
+pub filters_shown : (f : Facts) (s : List ℕ) (t : Site) (g : Gt) (string : ℕ → List ℕ) → reading f s ≡ accepted_as t g
     → filters_text string t s ≡ 0x09 ∷ filter_text string (shown_of t s).filters
 unfolding filters_text field_of found shown_of
 filters_shown f s t g string h =

@@ -16,11 +16,9 @@ use Rattle.types.specs.Rows.{width_of}
 use Rattle.types.specs.declared.Use.TheVariants.{Format as FormatUse}
 use Rattle.vectors.specs.Vectors.{elements_of}
 use Rattle.genotypes.specs.Formats.{gt_at}
-use Rattle.fetch.specs.Fields.{paired, FoundInside}
+use Rattle.fetch.specs.Fields.{paired, FoundInside, found_field}
 use Rattle.fetch.specs.Account.{Entry, entered, fields_of}
 use Rattle.fetch.specs.declared.Kind.TheVariants.{Format}
-use Rattle.fetch.specs.declared.Found.{Found}
-use Rattle.fetch.specs.declared.Found.TheVariants.{Field, Refused}
 use Rattle.fetch.proofs.Inside.{paired_inside}
 use Rattle.fetch_laws.specs.InTurn.{gt_in}
 use Rattle.fetch_laws.proofs.Present.{paired_keyed, paired_stop}
@@ -30,6 +28,9 @@ use Rattle.contents.proofs.Elements.{elements_of_take, elements_of_none}
 use Rattle.pieces.specs.Pieces.{followed, dot}
 use Rattle.vcf_calls.specs.Words.{person_word, slot_calls, genotype_word, vectors_of, call_words, part_words}
 use Rattle.vcf_line.specs.Line.{call_columns}
+use Rattle.std.specs.Prelude.{Err, Ok}
+use Rattle.fetch.specs.declared.Found.{Found}
+use Rattle.values.specs.Answers.{Answer}
 use Rattle.vcf_line.specs.Engine.{genotypes_text}
 
 -- of no elements each call is a dot
@@ -51,7 +52,7 @@ SameWords people s code len place stop b =
     pick b (followed 0x09 (replicate people dot)) (followed 0x09 (part_words code len (take (people * len * width_of code) (drop place s))))
     ≡ followed 0x09 (call_words people len (elements_of code (stop - place) (drop place s)))
 
-field_words : (people at : ℕ) (l s : List ℕ) (key code len place stop : ℕ) → paired people FormatUse at l ≡ Field key code len place stop
+field_words : (people at : ℕ) (l s : List ℕ) (key code len place stop : ℕ) → paired people FormatUse at l ≡ found_field key code len place stop
     → stop ≤ length s → SameWords people s code len place stop (eqb len 0)
 field_words people at l s key code len place stop h k =
     let x = paired_keyed people FormatUse at l key code len place stop h in
@@ -94,11 +95,11 @@ calls_shown gt people (suc n) at end s =
     by_key code len place stop es true on h same = rw (ne_eqb place 0 (λ z. omega arith), same)
     by_key code len place stop es false on h same = on
 
-    by_field : ((q : ℕ) → SameCalls gt people s (rest q (drop q (take end s)))) → (r : Found) → paired people FormatUse at l ≡ r
+    by_field : ((q : ℕ) → SameCalls gt people s (rest q (drop q (take end s)))) → (r : Answer Found) → paired people FormatUse at l ≡ r
         → FoundInside at (at + length l) r → SameCalls gt people s (entered Format at l rest r)
-    by_field on (Refused r) e i = refl
-    by_field on (Field key code len place stop) e i =
+    by_field on (Err r) e i = refl
+    by_field on (Ok x) e i =
         let j = rw (length-drop at (take end s), length-take end s) at i.2 in
-        let later : SameCalls gt people s (rest stop (drop (stop - at) l)) = rw (drop_on (take end s) at stop (omega arith)) (on stop) in
-        by_key code len place stop (rest stop (drop (stop - at) l)) (eqb key gt) later (omega arith)
-        (field_words people at l s key code len place stop e (omega arith))
+        let later : SameCalls gt people s (rest x.stop (drop (x.stop - at) l)) = rw (drop_on (take end s) at x.stop (omega arith)) (on x.stop) in
+        by_key x.code x.len x.place x.stop (rest x.stop (drop (x.stop - at) l)) (eqb x.key gt) later (omega arith)
+        (field_words people at l s x.key x.code x.len x.place x.stop e (omega arith))

@@ -4,3 +4,4 @@ mod Filters
 mod Genotypes
 mod Measured
 pub mod Shown
+pub mod Said

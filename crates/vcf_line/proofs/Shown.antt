@@ -8,8 +8,7 @@ use lib.ListN.{take, drop, replicate}
 use Rattle.facts.specs.declared.Facts.{Facts}
 use Rattle.fixed.specs.declared.Site.{Site}
 use Rattle.genotypes.specs.declared.Gt.{Gt}
-use Rattle.record.specs.Reading.{reading}
-use Rattle.record.specs.declared.Reading.TheVariants.{Accepted}
+use Rattle.record.specs.Reading.{reading, accepted_as}
 use Rattle.fetch.specs.Account.{Entry, fields_of, account, of_kind}
 use Rattle.fetch.specs.Fetch.{field_of, part_of, found, fetched}
 use Rattle.fetch.specs.declared.Kind.TheVariants.{Id, Format}
@@ -36,12 +35,12 @@ unfolding joined_by followed
 chain a b c d e q f calls = simp append_assoc
 
 -- ID is the part that is fetched
-id_shown : (f : Facts) (s : List ℕ) (t : Site) (g : Gt) → reading f s ≡ Accepted t g → part_of s (field_of Id 0 t s) ≡ (shown_of t s).id
+id_shown : (f : Facts) (s : List ℕ) (t : Site) (g : Gt) → reading f s ≡ accepted_as t g → part_of s (field_of Id 0 t s) ≡ (shown_of t s).id
 unfolding fetched found
 id_shown f s t g h = rw ((shown_fetched f s t g h).id.bytes, h)
 
 -- FORMAT and the calls are those of the genotype block
-genotypes_shown : (f : Facts) (s : List ℕ) (t : Site) (g : Gt) → reading f s ≡ Accepted t g
+genotypes_shown : (f : Facts) (s : List ℕ) (t : Site) (g : Gt) → reading f s ≡ accepted_as t g
     → genotypes_text t.people g s ≡ followed 0x09 (call_columns f.gt t.people (shown_of t s).formats)
 unfolding shown_of
 genotypes_shown f s t g h =
@@ -52,7 +51,7 @@ genotypes_shown f s t g h =
     ∙ ap (λ (es : List Entry). followed 0x09 (call_columns f.gt t.people (map (field_shown s) es))) (sym e)
 
 -- the law
-pub line_shown : (f : Facts) (s : List ℕ) (t : Site) (g : Gt) (string contig : ℕ → List ℕ) → reading f s ≡ Accepted t g
+pub line_shown : (f : Facts) (s : List ℕ) (t : Site) (g : Gt) (string contig : ℕ → List ℕ) → reading f s ≡ accepted_as t g
     → line_text string contig t g s ≡ vcf_line f.gt f.people string contig (shown_of t s)
 unfolding line_text front_text end_text vcf_line site_columns
 line_shown f s t g string contig h =

@@ -1,23 +1,20 @@
 -- A record as a VCF data line: its columns, of what the record shows; and what is answered and written. Names are given as functions of an offset. Rests
 -- on what a record shows, and on the words of QUAL, of calls and of names.
-use Rattle.std.specs.Prelude.{ℕ, List, [], ◌∷◌, ◌++◌, map, Bool, eqb, ltb, length, get_or, drop}
+use Rattle.std.specs.Prelude.{ℕ, List, [], ◌∷◌, ◌++◌, map, Bool, eqb, ltb, length, get_or, drop, Err, Ok}
 use Rattle.words.specs.Pick.{pick}
 use Rattle.stores.specs.Stores.{filled}
-use Rattle.values.specs.Answers.{refusal, Says, refuses, holds}
+use Rattle.values.specs.Answers.{refusal, Says, refuses, holds, Answer}
 use Rattle.values.specs.declared.Refusal.{Refusal}
 use Rattle.facts.specs.declared.Facts.{Facts}
 use Rattle.shown.specs.Shown.{Field, Shown}
 use Rattle.record.specs.Reading.{reading}
-use Rattle.record.specs.declared.Reading.{Reading}
-use Rattle.record.specs.declared.Reading.TheVariants.{Accepted, Refused as Unread}
 use Rattle.contents.specs.Contents.{shown_of}
 use Rattle.pieces.specs.Pieces.{joined_by, dot, listed, or_dot}
 use Rattle.names.specs.Names.{before_zero, name_of}
 use Rattle.vcf_qual.specs.Qual.{printable, qual_text}
 use Rattle.vcf_calls.specs.Words.{call_words}
+use Rattle.record.specs.declared.Reading.{Reading}
 use Rattle.vcf_site.specs.Columns.{pos_text}
-use Rattle.vcf_line.specs.declared.Line.{Line}
-use Rattle.vcf_line.specs.declared.Line.TheVariants.{Written, Refused}
 
 -- REF is the first allele, ALT the others joined by commas, or a dot where there are none
 unfoldable pub ref_text : List (List ℕ) → List ℕ
@@ -71,29 +68,29 @@ pub data Printed : Type 0 where
   unprinted : Refusal → Printed
 
 -- reading's refusals; then 17 for a QUAL that cannot be printed, and 18 for a list of names that is shorter than its dictionary
-abbrev pub printed_as : Facts → Names → Names → List ℕ → Reading → Printed
-printed_as f strings contigs s (Unread r) = unprinted r
-printed_as f strings contigs s (Accepted t g) =
-    pick (printable t.qual)
+abbrev pub printed_as : Facts → Names → Names → List ℕ → Answer Reading → Printed
+printed_as f strings contigs s (Err r) = unprinted r
+printed_as f strings contigs s (Ok a) =
+    pick (printable a.site.qual)
     (pick (is_short f.strings strings) (unprinted (refusal 18 0))
     (pick (is_short f.contigs contigs) (unprinted (refusal 18 0))
-    (line (vcf_line f.gt f.people (name_of strings.text strings.ends) (name_of contigs.text contigs.ends) (shown_of t s)))))
+    (line (vcf_line f.gt f.people (name_of strings.text strings.ends) (name_of contigs.text contigs.ends) (shown_of a.site s)))))
     (unprinted (refusal 17 0))
 
 unfoldable pub printed : Facts → Names → Names → List ℕ → Printed
 printed f strings contigs s = printed_as f strings contigs s (reading f s)
 
 -- 01's number and values for each case: the refusal, or the line's length
-abbrev pub line_says : Line → Says
-line_says (Refused r) = refuses r
-line_says (Written n) = holds (n ∷ [])
+abbrev pub line_says : Answer ℕ → Says
+line_says (Err r) = refuses r
+line_says (Ok n) = holds (n ∷ [])
 
 -- the answer, where so many bytes are lent: the line's length, or the refusal; 13 where it has no room
-abbrev pub answer_for : ℕ → Printed → Line
-answer_for room (unprinted r) = Refused r
-answer_for room (line l) = pick (ltb room (length l)) (Refused (refusal 13 0)) (Written (length l))
+abbrev pub answer_for : ℕ → Printed → Answer ℕ
+answer_for room (unprinted r) = Err r
+answer_for room (line l) = pick (ltb room (length l)) (Err (refusal 13 0)) (Ok (length l))
 
-unfoldable pub line_answer : Facts → Names → Names → ℕ → List ℕ → Line
+unfoldable pub line_answer : Facts → Names → Names → ℕ → List ℕ → Answer ℕ
 line_answer f strings contigs room s = answer_for room (printed f strings contigs s)
 
 -- the buffer: the line from its start on, its other bytes as they were; on a refusal every byte as it was

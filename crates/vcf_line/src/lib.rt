@@ -4,12 +4,11 @@
 
 ghost use Rattle.std.specs.Prelude.{◌≡◌, ◌∷◌, length};
 ghost use Rattle.std.proofs.lemmas.List.Edits.{sets};
-ghost use Rattle.values.specs.Answers.{refusal, refusal_in};
+ghost use Rattle.values.specs.Answers.{refusal};
 ghost use Rattle.pieces.specs.Pieces.{after};
 ghost use Rattle.names.specs.Names.{name_of};
 ghost use Rattle.vcf_qual.specs.Qual.{qual_text};
-ghost use Rattle.vcf_line.specs.Line.{line, names_in, line_says, answer_for, buffer_for, line_answer, after_line};
-ghost use Rattle.vcf_line.specs.declared.Line.TheVariants.{Refused};
+ghost use Rattle.vcf_line.specs.Line.{line, names_in, answer_for, buffer_for, line_answer, after_line};
 ghost use Rattle.vcf_line.specs.Engine.{genotypes_text, end_text, line_text};
 
 use facts::Facts;
@@ -17,26 +16,7 @@ use fixed::Site;
 use genotypes::Gt;
 use record::Reading;
 use values::Refusal;
-
-// A line that was written, with its length; or the refusal, and nothing was written.
-#[derive(Clone, Copy)]
-pub enum Line {
-    Written(usize),
-    Refused(Refusal),
-}
-
-// The refusal that an answer says; number 0 where it says none.
-pub fn line_refusal(l: Line) -> Refusal
-    ensures { result ≡ refusal_in (line_says l) }
-{
-    match l {
-        Line::Written(_) => Refusal {
-            number: 0,
-            place: 0,
-        },
-        Line::Refused(r) => r,
-    }
-}
+use vcf_site::Names;
 
 // FORMAT and the calls, each with a tab before it; nothing where there is no GT.
 fn put_genotypes(buf: &mut [u8], to: usize, s: &[u8], gt: Gt, people: u32) -> usize
@@ -84,28 +64,26 @@ fn put_line(
     s: &[u8],
     site: Site,
     gt: Gt,
-    strings: &[u8],
-    string_ends: &[u32],
-    contigs: &[u8],
-    contig_ends: &[u32],
+    strings: Names<'_>,
+    contigs: Names<'_>,
 ) -> usize
-    ensures next { result ≡ after 0 (length (line_text (name_of strings.now string_ends.now) (name_of contigs.now contig_ends.now) site gt s.now)) }
-    ensures written { buf.new ≡ sets buf.old 0 (line_text (name_of strings.now string_ends.now) (name_of contigs.now contig_ends.now) site gt s.now) }
+    ensures next { result ≡ after 0 (length (line_text (name_of strings.entry.text.now strings.entry.ends.now) (name_of contigs.entry.text.now contigs.entry.ends.now) site gt s.now)) }
+    ensures written { buf.new ≡ sets buf.old 0 (line_text (name_of strings.entry.text.now strings.entry.ends.now) (name_of contigs.entry.text.now contigs.entry.ends.now) site gt s.now) }
 {
     let people = site.people;
     let qual = site.qual;
-    let mut next = vcf_site::put_front(buf, 0, s, site, contigs, contig_ends);
+    let mut next = vcf_site::put_front(buf, 0, s, site, contigs);
     next = vcf_site::put_alleles(buf, next, s, site);
     next = put_qual(buf, next, qual);
-    next = vcf_site::put_filters(buf, next, s, site, strings, string_ends);
+    next = vcf_site::put_filters(buf, next, s, site, strings);
     put_end(buf, next, s, gt, people)
 }
 
 // A refusal at place 0.
-fn refused(number: u32) -> Line
-    ensures { result ≡ Refused (refusal number 0) }
+fn refused(number: u32) -> Result<usize, Refusal>
+    ensures { result ≡ Err (refusal number 0) }
 {
-    Line::Refused(Refusal { number, place: 0 })
+    Err(Refusal { number, place: 0 })
 }
 
 // The line of a record that was read, at the buffer's start; 13, and nothing written, where it has no room.
@@ -114,34 +92,24 @@ fn put_measured(
     s: &[u8],
     site: Site,
     gt: Gt,
-    strings: &[u8],
-    string_ends: &[u32],
-    contigs: &[u8],
-    contig_ends: &[u32],
-) -> Line
-    ensures told { result ≡ answer_for (length buf.old) (line (line_text (name_of strings.now string_ends.now) (name_of contigs.now contig_ends.now) site gt s.now)) }
-    ensures written { buf.new ≡ buffer_for buf.old (line (line_text (name_of strings.now string_ends.now) (name_of contigs.now contig_ends.now) site gt s.now)) }
+    strings: Names<'_>,
+    contigs: Names<'_>,
+) -> Result<usize, Refusal>
+    ensures told { result ≡ answer_for (length buf.old) (line (line_text (name_of strings.entry.text.now strings.entry.ends.now) (name_of contigs.entry.text.now contigs.entry.ends.now) site gt s.now)) }
+    ensures written { buf.new ≡ buffer_for buf.old (line (line_text (name_of strings.entry.text.now strings.entry.ends.now) (name_of contigs.entry.text.now contigs.entry.ends.now) site gt s.now)) }
 {
     let mut none = [0u8; 1];
-    let size = put_line(
-        &mut none[..0],
-        s,
-        site,
-        gt,
-        strings,
-        string_ends,
-        contigs,
-        contig_ends,
-    );
+    let size = put_line(&mut none[..0], s, site, gt, strings, contigs);
     if buf.len() < size {
         return refused(13);
     }
-    put_line(buf, s, site, gt, strings, string_ends, contigs, contig_ends);
-    Line::Written(size)
+    put_line(buf, s, site, gt, strings, contigs);
+    Ok(size)
 }
 
 // The record at the start of a slice as one VCF data line, at the start of a lent buffer: the line's length; or reading's refusal, 17 for a QUAL that
 // cannot be printed, 18 for a list of names that is shorter than its dictionary, 13 for a buffer too short, and nothing written.
+#[tactic(auto, unfolding(crate::specs::Line::line_answer, crate::specs::Line::after_line, crate::specs::Line::printed))]
 pub fn write_line(
     s: &[u8],
     facts: Facts,
@@ -150,14 +118,11 @@ pub fn write_line(
     contigs: &[u8],
     contig_ends: &[u32],
     buf: &mut [u8],
-) -> Line
+) -> Result<usize, Refusal>
     ensures told { result ≡ line_answer facts (names_in strings.now string_ends.now) (names_in contigs.now contig_ends.now) (length buf.old) s.now }
     ensures written { buf.new ≡ after_line facts (names_in strings.now string_ends.now) (names_in contigs.now contig_ends.now) buf.old s.now }
 {
-    let r = record::read(s, facts);
-    let Reading::Accepted { site, gt } = r else {
-        return Line::Refused(record::reading_refusal(r));
-    };
+    let Reading { site, gt } = record::read(s, facts)?;
     if vcf_qual::is_printable(site.qual) {
         if string_ends.len() < facts.strings as usize {
             return refused(18);
@@ -165,7 +130,15 @@ pub fn write_line(
         if contig_ends.len() < facts.contigs as usize {
             return refused(18);
         }
-        return put_measured(buf, s, site, gt, strings, string_ends, contigs, contig_ends);
+        let strings = Names {
+            text: strings,
+            ends: string_ends,
+        };
+        let contigs = Names {
+            text: contigs,
+            ends: contig_ends,
+        };
+        return put_measured(buf, s, site, gt, strings, contigs);
     }
     refused(17)
 }

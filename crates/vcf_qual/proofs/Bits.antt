@@ -16,14 +16,13 @@ use lib.Ieee.Fits.{down_pos}
 use borrow.Author.Tests.{le-ltb, lt-leb, eq-eqb, ne_eqb, ltb-true, ltb-false, leb-false, eqb-true}
 use Rattle.words.specs.Pick.{pick}
 use Rattle.vcf_qual.specs.Qual.{whole_of, exponent_of, significand_of}
-use Rattle.vcf_qual.specs.declared.Whole.{Whole}
-use Rattle.vcf_qual.specs.declared.Whole.TheVariants.{Number, Other}
+use Rattle.std.specs.Prelude.{Option, Some, None}
 
 -- the bits of a significand of 24 digits, of which d stand below the point
 abbrev bits_of : ℕ → ℕ → ℕ
 bits_of d s = (149 - d) * 8388608 + s
 
-read_bits : (d s : ℕ) → d ≤ 23 → 8388608 ≤ s → s < 16777216 → s % 2 ^ d ≡ 0 → whole_of (bits_of d s) ≡ Number (s / 2 ^ d)
+read_bits : (d s : ℕ) → d ≤ 23 → 8388608 ≤ s → s < 16777216 → s % 2 ^ d ≡ 0 → whole_of (bits_of d s) ≡ Some (s / 2 ^ d)
 unfolding whole_of
 read_bits d s k g h z =
     let q = bits_of d s in
@@ -50,29 +49,29 @@ data Reading (q n : ℕ) : Type 0 where
   some : (d : ℕ) → d ≤ 23 → 8388608 ≤ n * 2 ^ d → n * 2 ^ d < 16777216 → q ≡ bits_of d (n * 2 ^ d) → Reading q n
 
 -- a choice that came to a number: which way it went
-was_zero : (b : Bool) (y : Whole) (n : ℕ) → pick b (Number 0) y ≡ Number n → ((b ≡ true) × (n ≡ 0)) ⊎ ((b ≡ false) × (y ≡ Number n))
+was_zero : (b : Bool) (y : Option ℕ) (n : ℕ) → pick b (Some 0) y ≡ Some n → ((b ≡ true) × (n ≡ 0)) ⊎ ((b ≡ false) × (y ≡ Some n))
 was_zero true y n h = inl (refl, cc)
 was_zero false y n h = inr (refl, h)
 
-no_other : (b : Bool) (y : Whole) (n : ℕ) → pick b Other y ≡ Number n → (b ≡ false) × (y ≡ Number n)
+no_other : (b : Bool) (y : Option ℕ) (n : ℕ) → pick b None y ≡ Some n → (b ≡ false) × (y ≡ Some n)
 no_other true y n h = (cc, cc)
 no_other false y n h = (refl, h)
 
-was_number : (b : Bool) (m n : ℕ) → pick b (Number m) Other ≡ Number n → (b ≡ true) × (m ≡ n)
+was_number : (b : Bool) (m n : ℕ) → pick b (Some m) None ≡ Some n → (b ≡ true) × (m ≡ n)
 was_number true m n h = (refl, cc)
 was_number false m n h = (cc, cc)
 
 whole_parts : (s one n : ℕ) → s % one ≡ 0 → s / one ≡ n → n * one ≡ s
 whole_parts s one n z e = let f : s / one * one + s % one ≡ s = div-add-mod' s one in rw (← e) (omega arith)
 
-reading : (q n : ℕ) → whole_of q ≡ Number n → Reading q n
+reading : (q n : ℕ) → whole_of q ≡ Some n → Reading q n
 unfolding whole_of
 reading q n h = ⊎_elim (λ z. none (eqb-true _ _ z.0) z.1) (λ t. further t.1) (was_zero (eqb (q % 2147483648) 0) _ n h)
   where
-    further : pick (leb 2147483648 q) Other
-        (pick (ltb (exponent_of q) 127) Other
-        (pick (ltb 150 (exponent_of q)) Other
-        (pick (eqb (significand_of q % 2 ^ (150 - exponent_of q)) 0) (Number (significand_of q / 2 ^ (150 - exponent_of q))) Other))) ≡ Number n
+    further : pick (leb 2147483648 q) None
+        (pick (ltb (exponent_of q) 127) None
+        (pick (ltb 150 (exponent_of q)) None
+        (pick (eqb (significand_of q % 2 ^ (150 - exponent_of q)) 0) (Some (significand_of q / 2 ^ (150 - exponent_of q))) None))) ≡ Some n
         → Reading q n
     further h =
         let x = exponent_of q in
@@ -150,12 +149,12 @@ moved_up n z p l u g =
     (rw a at b, rw e at c)
 
 -- the bits of a number are read as that number
-pub whole_bits : (n : ℕ) → n < 16777216 → whole_of (to_bits binary32 (of_int binary32 (pos n))) ≡ Number n
+pub whole_bits : (n : ℕ) → n < 16777216 → whole_of (to_bits binary32 (of_int binary32 (pos n))) ≡ Some n
 whole_bits zero h = unfold whole_of of_int to_bits in refl
 whole_bits (suc k) h = of_size (size (suc k)) (size-lt (suc k)) (size_reaches (suc k)) (size-le (suc k) 24 h)
   where
     of_size : (z : ℕ) → suc k < 2 ^ z → ((j : ℕ) → j < z → 2 ^ j ≤ suc k) → z ≤ 24
-        → whole_of (to_bits binary32 (of_int binary32 (pos (suc k)))) ≡ Number (suc k)
+        → whole_of (to_bits binary32 (of_int binary32 (pos (suc k)))) ≡ Some (suc k)
     of_size zero u g l = absurd (omega arith)
     of_size (suc z) u g l =
         let d = 24 - suc z in
@@ -167,28 +166,28 @@ whole_bits (suc k) h = of_size (size (suc k)) (size-lt (suc k)) (size_reaches (s
         )
 
 -- what is read as a number above 0 has the bits of that number; what is read as 0 is one of the two zeros
-pub bits_whole : (q n : ℕ) → whole_of q ≡ Number n → 0 < n → q ≡ to_bits binary32 (of_int binary32 (pos n))
+pub bits_whole : (q n : ℕ) → whole_of q ≡ Some n → 0 < n → q ≡ to_bits binary32 (of_int binary32 (pos n))
 bits_whole q n h p = by-reading (reading q n h)
   where
     by-reading : Reading q n → q ≡ to_bits binary32 (of_int binary32 (pos n))
     by-reading (none z e) = absurd (omega arith)
     by-reading (some d k g l e) = e ∙ sym (number_bits n d k g l)
 
-pub bits_zero : (q : ℕ) → whole_of q ≡ Number 0 → q % 2147483648 ≡ 0
+pub bits_zero : (q : ℕ) → whole_of q ≡ Some 0 → q % 2147483648 ≡ 0
 bits_zero q h = by-reading (reading q 0 h)
   where
     by-reading : Reading q 0 → q % 2147483648 ≡ 0
     by-reading (none z e) = z
     by-reading (some d k g l e) = let z = zero-mul (2 ^ d) in absurd (omega arith)
 
-pub two_zeros : (q : ℕ) → q < 4294967296 → whole_of q ≡ Number 0 → (q ≡ 0) ⊎ (q ≡ 2147483648)
+pub two_zeros : (q : ℕ) → q < 4294967296 → whole_of q ≡ Some 0 → (q ≡ 0) ⊎ (q ≡ 2147483648)
 two_zeros q l h = let z = bits_zero q h in by-test (ltb q 2147483648) refl z
   where
     by-test : (b : Bool) → ltb q 2147483648 ≡ b → q % 2147483648 ≡ 0 → (q ≡ 0) ⊎ (q ≡ 2147483648)
     by-test true e z = let g : q < 2147483648 = ltb-true _ _ e in inl (sym (mod-eq_of_lt g) ∙ z)
     by-test false e z = let g : 2147483648 ≤ q = ltb-false _ _ e in inr (omega arith)
 
-pub number_small : (q n : ℕ) → whole_of q ≡ Number n → n < 16777216
+pub number_small : (q n : ℕ) → whole_of q ≡ Some n → n < 16777216
 number_small q n h = by-reading (reading q n h)
   where
     by-reading : Reading q n → n < 16777216
@@ -196,6 +195,6 @@ number_small q n h = by-reading (reading q n h)
     by-reading (some d k g l e) = lt_of_le_of_lt (scaled_up n d) l
 
 -- two patterns that are read alike are the same, or the two zeros
-pub alike : (q r n : ℕ) → whole_of q ≡ Number n → whole_of r ≡ Number n → (q ≡ r) ⊎ ((q % 2147483648 ≡ 0) × (r % 2147483648 ≡ 0))
+pub alike : (q r n : ℕ) → whole_of q ≡ Some n → whole_of r ≡ Some n → (q ≡ r) ⊎ ((q % 2147483648 ≡ 0) × (r % 2147483648 ≡ 0))
 alike q r zero h g = inr (bits_zero q h, bits_zero r g)
 alike q r (suc n) h g = inl (bits_whole q (suc n) h (omega arith) ∙ sym (bits_whole r (suc n) g (omega arith)))

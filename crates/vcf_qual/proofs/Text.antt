@@ -13,34 +13,33 @@ use Rattle.decimal.specs.Decimal.{decimal}
 use Rattle.decimal.proofs.Digits.{no_dot, same_number}
 use Rattle.pieces.specs.Pieces.{dot}
 use Rattle.vcf_qual.specs.Qual.{whole_of, missing_qual, is_number, printable, qual_text}
-use Rattle.vcf_qual.specs.declared.Whole.{Whole}
-use Rattle.vcf_qual.specs.declared.Whole.TheVariants.{Number, Other}
+use Rattle.std.specs.Prelude.{Option, Some, None}
 use Rattle.vcf_qual.proofs.Bits.{alike}
 
 pub text_missing : (q : ℕ) → q ≡ missing_qual → qual_text q ≡ dot
 unfolding qual_text
 text_missing q h = rw (eq-eqb q missing_qual h)
 
-pub text_number : (q n : ℕ) → (q ≡ missing_qual → ⊥) → whole_of q ≡ Number n → qual_text q ≡ decimal n
+pub text_number : (q n : ℕ) → (q ≡ missing_qual → ⊥) → whole_of q ≡ Some n → qual_text q ≡ decimal n
 unfolding qual_text
 text_number q n h e = rw (ne_eqb q missing_qual h, e)
 
-pub text_other : (q : ℕ) → (q ≡ missing_qual → ⊥) → whole_of q ≡ Other → qual_text q ≡ []
+pub text_other : (q : ℕ) → (q ≡ missing_qual → ⊥) → whole_of q ≡ None → qual_text q ≡ []
 unfolding qual_text
 text_other q h e = rw (ne_eqb q missing_qual h, e)
 
 -- what is printed is missing, or a number; with its text
 pub data Printed (q : ℕ) : Type 0 where
   missing : q ≡ missing_qual → qual_text q ≡ dot → Printed q
-  number : (n : ℕ) → whole_of q ≡ Number n → qual_text q ≡ decimal n → Printed q
+  number : (n : ℕ) → whole_of q ≡ Some n → qual_text q ≡ decimal n → Printed q
 
 pub printed : (q : ℕ) → printable q ≡ true → Printed q
 unfolding printable
 printed q h = by-test (eqb q missing_qual) refl h
   where
-    by_whole : (w : Whole) → whole_of q ≡ w → (q ≡ missing_qual → ⊥) → is_number w ≡ true → Printed q
-    by_whole (Number n) e m h = number n e (text_number q n m e)
-    by_whole Other e m h = let z : ◌≡◌ {A = ℕ} 0 1 = cc in absurd (omega arith)
+    by_whole : (w : Option ℕ) → whole_of q ≡ w → (q ≡ missing_qual → ⊥) → is_number w ≡ true → Printed q
+    by_whole (Some n) e m h = number n e (text_number q n m e)
+    by_whole None e m h = let z : ◌≡◌ {A = ℕ} 0 1 = cc in absurd (omega arith)
 
     by-test : (b : Bool) → eqb q missing_qual ≡ b → pick b true (is_number (whole_of q)) ≡ true → Printed q
     by-test true e h = let m = eqb-true q missing_qual e in missing m (text_missing q m)

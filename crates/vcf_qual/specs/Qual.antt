@@ -1,10 +1,8 @@
 -- QUAL as text: from its 32 float bits by whole numbers alone, and no arithmetic on floats. Rests on decimal, and on pieces for the dot.
-use Rattle.std.specs.Prelude.{ℕ, ◌+◌, ◌-◌, ◌/◌, ◌%◌, ◌^◌, List, [], Bool, true, false, ltb, leb, eqb}
+use Rattle.std.specs.Prelude.{ℕ, ◌+◌, ◌-◌, ◌/◌, ◌%◌, ◌^◌, List, [], Bool, true, false, ltb, leb, eqb, Option, None, Some}
 use Rattle.words.specs.Pick.{pick}
 use Rattle.decimal.specs.Decimal.{decimal}
 use Rattle.pieces.specs.Pieces.{dot}
-use Rattle.vcf_qual.specs.declared.Whole.{Whole}
-use Rattle.vcf_qual.specs.declared.Whole.TheVariants.{Number, Other}
 
 -- 32 bits as binary32 has them: a sign, 8 bits of exponent and 23 of fraction; the number is (2 ^ 23 + fraction) * 2 ^ (exponent - 150)
 abbrev pub exponent_of : ℕ → ℕ
@@ -15,26 +13,26 @@ significand_of q = 2 ^ 23 + q % 2 ^ 23
 
 -- the whole number from 0 to 16777215 that the bits are: both zeros are 0; from 1 on, exponents 127 to 150, of which 2 ^ (150 - exponent) has to go
 -- into the significand; a negative number, a larger one, one with a fraction, an infinite one or none is no such number
-unfoldable pub whole_of : ℕ → Whole
+unfoldable pub whole_of : ℕ → Option ℕ
 whole_of q =
     let one = 2 ^ (150 - exponent_of q) in
-    pick (eqb (q % 2 ^ 31) 0) (Number 0)
-    (pick (leb (2 ^ 31) q) Other
-    (pick (ltb (exponent_of q) 127) Other
-    (pick (ltb 150 (exponent_of q)) Other
-    (pick (eqb (significand_of q % one) 0) (Number (significand_of q / one)) Other))))
+    pick (eqb (q % 2 ^ 31) 0) (Some 0)
+    (pick (leb (2 ^ 31) q) None
+    (pick (ltb (exponent_of q) 127) None
+    (pick (ltb 150 (exponent_of q)) None
+    (pick (eqb (significand_of q % one) 0) (Some (significand_of q / one)) None))))
 
 -- QUAL's missing mark
 abbrev pub missing_qual : ℕ
 missing_qual = 0x7F800001
 
-abbrev pub is_number : Whole → Bool
-is_number (Number n) = true
-is_number Other = false
+abbrev pub is_number : Option ℕ → Bool
+is_number (Some n) = true
+is_number None = false
 
-abbrev pub whole_text : Whole → List ℕ
-whole_text (Number n) = decimal n
-whole_text Other = []
+abbrev pub whole_text : Option ℕ → List ℕ
+whole_text (Some n) = decimal n
+whole_text None = []
 
 -- whether QUAL can be printed; its text: a dot when missing, else its digits
 unfoldable pub printable : ℕ → Bool

@@ -7,60 +7,39 @@ ghost use Rattle.std.proofs.lemmas.List.Edits.{sets};
 ghost use Rattle.pieces.specs.Pieces.{after};
 ghost use Rattle.vcf_qual.specs.Qual.{whole_of, printable, qual_text};
 
-// What 32 float bits are: a whole number from 0 to 16,777,215, or anything else.
-#[derive(Clone, Copy)]
-pub enum Whole {
-    Number(u32),
-    Other,
-}
-
 // QUAL's missing mark.
 const MISSING: u32 = 0x7F800001;
 
-// A power of two, of those that go into a significand.
-fn power(k: u32) -> u32
-    requires { k ≤ 23 }
-    ensures { (result ≡ 2 ^ k) × (0 < result) }
-{
-    1 << k
-}
-
-// The whole number that 32 float bits are.
-pub fn whole_of(bits: u32) -> Whole
+// The whole number from 0 to 16,777,215 that 32 float bits are; none where they are anything else.
+pub fn whole_of(bits: u32) -> Option<u32>
     ensures { result ≡ whole_of bits }
 {
     if bits % 2147483648 == 0 {
-        return Whole::Number(0);
+        return Some(0);
     }
     if 2147483648 <= bits {
-        return Whole::Other;
+        return None;
     }
     let exponent = bits / 8388608 % 256;
     if exponent < 127 {
-        return Whole::Other;
+        return None;
     }
     if 150 < exponent {
-        return Whole::Other;
+        return None;
     }
-    let one = power(150 - exponent);
+    let one = 2u32.pow(150 - exponent);
     let significand = 8388608 + bits % 8388608;
     if significand % one == 0 {
-        return Whole::Number(significand / one);
+        return Some(significand / one);
     }
-    Whole::Other
+    None
 }
 
 // Whether QUAL can be printed.
 pub fn is_printable(qual: u32) -> bool
     ensures { result ≡ printable qual }
 {
-    if qual == MISSING {
-        return true;
-    }
-    match whole_of(qual) {
-        Whole::Number(_) => true,
-        Whole::Other => false,
-    }
+    qual == MISSING || whole_of(qual).is_some()
 }
 
 // QUAL's text, put at a place as far as the buffer goes; the place after it. Of a QUAL that cannot be printed nothing is put.
@@ -72,7 +51,7 @@ pub fn put_qual(buf: &mut [u8], at: usize, qual: u32) -> usize
         return pieces::put_byte(buf, at, b'.');
     }
     match whole_of(qual) {
-        Whole::Number(n) => pieces::put_number(buf, at, n as u64),
-        Whole::Other => at,
+        Some(n) => pieces::put_number(buf, at, u64::from(n)),
+        None => at,
     }
 }

@@ -1,6 +1,6 @@
 -- The site's columns as they are made from the bytes of a record and from where its fields stand, with the tabs between them; of any site and any bytes,
 -- as far as fields stand there whole. Rests on the account of a record's fields, on positions and on names.
-use Rattle.std.specs.Prelude.{ℕ, ◌-◌, List, [], ◌∷◌, ◌++◌, map, length, take, drop, replicate}
+use Rattle.std.specs.Prelude.{ℕ, ◌-◌, List, [], ◌∷◌, ◌++◌, map, length, take, drop, replicate, Err, Ok}
 use Rattle.std.specs.Int.{w32}
 use Rattle.std.proofs.Common.{of_z}
 use Rattle.decimal.specs.Decimal.{decimal}
@@ -10,9 +10,9 @@ use Rattle.vectors.specs.Vectors.{elements_of}
 use Rattle.fetch.specs.Account.{Entry, fields_of}
 use Rattle.fetch.specs.Fetch.{field_of, part_of}
 use Rattle.fetch.specs.declared.Kind.TheVariants.{Id, Allele, Filter}
-use Rattle.fetch.specs.declared.Found.{Found}
-use Rattle.fetch.specs.declared.Found.TheVariants.{Field, Refused}
 use Rattle.pieces.specs.Pieces.{listed, or_dot}
+use Rattle.fetch.specs.declared.Found.{Found}
+use Rattle.values.specs.Answers.{Answer}
 use Rattle.names.specs.Names.{before_zero}
 
 -- POS as VCF has it: one-based, in decimal digits; of the 32 bits that BCF stores
@@ -33,10 +33,10 @@ unfoldable pub allele_parts : ℕ → List ℕ → ℕ → ℕ → List (List �
 allele_parts people block at n = map (part_at block) (fields_of people (replicate n Allele) at (drop at block))
 
 -- REF and ALT, each with a tab before it: the first allele, and those after it
-abbrev pub alleles_from : Site → List ℕ → Found → List ℕ
-alleles_from t s (Refused r) = []
-alleles_from t s (Field key code n place stop) =
-    0x09 ∷ (take (stop - place) (drop place s) ++ (0x09 ∷ listed 0x2C (allele_parts t.people (take t.border s) stop (t.alleles - 1))))
+abbrev pub alleles_from : Site → List ℕ → Answer Found → List ℕ
+alleles_from t s (Err r) = []
+alleles_from t s (Ok x) =
+    0x09 ∷ (take (x.stop - x.place) (drop x.place s) ++ (0x09 ∷ listed 0x2C (allele_parts t.people (take t.border s) x.stop (t.alleles - 1))))
 
 unfoldable pub alleles_text : Site → List ℕ → List ℕ
 alleles_text t s = alleles_from t s (field_of Allele 0 t s)
@@ -46,9 +46,9 @@ unfoldable pub names_text : (ℕ → List ℕ) → ℕ → List ℕ → List ℕ
 names_text string t l = listed 0x3B (map string (elements_of t (length l) l))
 
 -- FILTER, with a tab before it
-abbrev pub filters_from : (ℕ → List ℕ) → List ℕ → Found → List ℕ
-filters_from string s (Refused r) = []
-filters_from string s (Field key code n place stop) = 0x09 ∷ names_text string code (take (stop - place) (drop place s))
+abbrev pub filters_from : (ℕ → List ℕ) → List ℕ → Answer Found → List ℕ
+filters_from string s (Err r) = []
+filters_from string s (Ok x) = 0x09 ∷ names_text string x.code (take (x.stop - x.place) (drop x.place s))
 
 unfoldable pub filters_text : (ℕ → List ℕ) → Site → List ℕ → List ℕ
 filters_text string t s = filters_from string s (field_of Filter 0 t s)

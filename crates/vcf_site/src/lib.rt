@@ -2,13 +2,13 @@
 // Rests on fetching for the fields of a record that was read, and on pieces and names for how they are put.
 #![tactic(auto)]
 
-ghost use Rattle.std.specs.Prelude.{◌≡◌, map, ◌+◌, ◌-◌, ◌*◌, ◌≤◌, length, drop};
+ghost use Rattle.std.specs.Prelude.{◌≡◌, map, ◌<◌, length};
 ghost use Rattle.std.proofs.lemmas.List.Edits.{sets};
 ghost use Rattle.std.specs.Int.{w32};
 ghost use Rattle.std.proofs.Common.{of_z};
 ghost use Rattle.positions.specs.Positions.{pos_of, pos_bits, one_based};
 ghost use Rattle.types.specs.Rows.{width_of};
-ghost use Rattle.vectors.specs.Vectors.{shown_numbers};
+ghost use Rattle.vectors.specs.Vectors.{elements_of};
 ghost use Rattle.pieces.specs.Pieces.{after, followed, listed, or_dot};
 ghost use Rattle.names.specs.Names.{before_zero, name_of};
 ghost use Rattle.vcf_site.specs.Columns.{front_text, allele_parts, alleles_text, names_text, filters_text};
@@ -16,6 +16,22 @@ ghost use Rattle.vcf_site.specs.Columns.{front_text, allele_parts, alleles_text,
 use fetch::{Found, Kind};
 use fixed::Site;
 use positions::BcfPosition;
+
+// A list of names as it is lent: one text, and the ends of the names in it.
+#[derive(Clone, Copy)]
+pub struct Names<'a> {
+    pub text: &'a [u8],
+    pub ends: &'a [u32],
+}
+
+impl<'a> Names<'a> {
+    // The name that an offset says.
+    fn at(self, i: u32) -> &'a [u8]
+        ensures { result.now ≡ name_of self.entry.text.now self.entry.ends.now i }
+    {
+        names::name_at(self.text, self.ends, i)
+    }
+}
 
 // POS as VCF has it.
 fn vcf_pos(pos: BcfPosition) -> u64
@@ -31,26 +47,18 @@ fn put_text(buf: &mut [u8], at: usize, text: &[u8]) -> usize
     ensures written { buf.new ≡ sets buf.old at (or_dot (before_zero text.now)) }
 {
     let part = names::before_zero(text);
-    if part.len() == 0 {
+    if part.is_empty() {
         return pieces::put_byte(buf, at, b'.');
     }
     pieces::put_part(buf, at, part)
 }
 
 // CHROM, POS and ID.
-pub fn put_front(
-    buf: &mut [u8],
-    to: usize,
-    s: &[u8],
-    site: Site,
-    text: &[u8],
-    ends: &[u32],
-) -> usize
-    ensures next { result ≡ after to (length (front_text (name_of text.now ends.now) site s.now)) }
-    ensures written { buf.new ≡ sets buf.old to (front_text (name_of text.now ends.now) site s.now) }
+pub fn put_front(buf: &mut [u8], to: usize, s: &[u8], site: Site, names: Names<'_>) -> usize
+    ensures next { result ≡ after to (length (front_text (name_of names.entry.text.now names.entry.ends.now) site s.now)) }
+    ensures written { buf.new ≡ sets buf.old to (front_text (name_of names.entry.text.now names.entry.ends.now) site s.now) }
 {
-    let chrom = site.chrom;
-    let mut next = pieces::put_part(buf, to, names::name_at(text, ends, chrom));
+    let mut next = pieces::put_part(buf, to, names.at(site.chrom));
     next = pieces::put_byte(buf, next, b'\t');
     next = pieces::put_number(buf, next, vcf_pos(site.pos));
     next = pieces::put_byte(buf, next, b'\t');
@@ -69,25 +77,15 @@ fn put_further(
     ensures next { result ≡ after to (length (followed 0x2C (allele_parts people block.now from count))) }
     ensures written { buf.new ≡ sets buf.old to (followed 0x2C (allele_parts people block.now from count)) }
 {
-    let mut left = count;
     let mut at = from;
     let mut next = to;
-    while 0 < left {
-        let f = fetch::field_at(block, at, Kind::Allele, people);
-        let Found::Field {
-            key: _,
-            code: _,
-            len: _,
-            place,
-            stop,
-        } = f
-        else {
+    for _ in 0..count {
+        let Ok(Found { place, stop, .. }) = fetch::field_at(block, at, Kind::Allele, people) else {
             return next;
         };
         next = pieces::put_byte(buf, next, b',');
         next = pieces::put_part(buf, next, &block[place..stop]);
         at = stop;
-        left -= 1;
     }
     next
 }
@@ -100,29 +98,11 @@ fn put_alts(buf: &mut [u8], to: usize, block: &[u8], from: usize, people: u32, c
     if count == 0 {
         return pieces::put_byte(buf, to, b'.');
     }
-    let f = fetch::field_at(block, from, Kind::Allele, people);
-    let Found::Field {
-        key: _,
-        code: _,
-        len: _,
-        place,
-        stop,
-    } = f
-    else {
+    let Ok(Found { place, stop, .. }) = fetch::field_at(block, from, Kind::Allele, people) else {
         return pieces::put_byte(buf, to, b'.');
     };
     let next = pieces::put_part(buf, to, &block[place..stop]);
     put_further(buf, next, block, stop, people, count - 1)
-}
-
-// The alleles after the first.
-fn others(alleles: u16) -> u32
-    ensures { result ≡ alleles - 1 }
-{
-    if alleles == 0 {
-        return 0;
-    }
-    alleles as u32 - 1
 }
 
 // REF and ALT, each with a tab before it.
@@ -130,15 +110,7 @@ pub fn put_alleles(buf: &mut [u8], to: usize, s: &[u8], site: Site) -> usize
     ensures next { result ≡ after to (length (alleles_text site s.now)) }
     ensures written { buf.new ≡ sets buf.old to (alleles_text site s.now) }
 {
-    let f = fetch::field_of(s, site, Kind::Allele, 0);
-    let Found::Field {
-        key: _,
-        code: _,
-        len: _,
-        place,
-        stop,
-    } = f
-    else {
+    let Ok(Found { place, stop, .. }) = fetch::field_of(s, site, Kind::Allele, 0) else {
         return to;
     };
     let mut next = pieces::put_byte(buf, to, b'\t');
@@ -150,88 +122,62 @@ pub fn put_alleles(buf: &mut [u8], to: usize, s: &[u8], site: Site) -> usize
         fetch::up_to(s, site.border),
         stop,
         site.people,
-        others(site.alleles),
+        u32::from(site.alleles).saturating_sub(1),
     )
 }
 
-// The names of so many further offsets of a part, each with a semicolon before it.
+// The names of a part's offsets, each with a semicolon before it.
 fn put_names(
     buf: &mut [u8],
     to: usize,
     part: &[u8],
-    from: usize,
     code: u8,
-    width: u8,
-    count: usize,
-    text: &[u8],
-    ends: &[u32],
+    width: usize,
+    names: Names<'_>,
 ) -> usize
-    requires { (width ≡ width_of code) × (from + count * width ≤ length part.now) }
-    ensures next { result ≡ after to (length (followed 0x3B (map (name_of text.now ends.now) (shown_numbers code width count (drop from part.now))))) }
-    ensures written { buf.new ≡ sets buf.old to (followed 0x3B (map (name_of text.now ends.now) (shown_numbers code width count (drop from part.now)))) }
+    requires { (width ≡ width_of code) × (0 < width) }
+    ensures next { result ≡ after to (length (followed 0x3B (map (name_of names.entry.text.now names.entry.ends.now) (elements_of code (length part.now) part.now)))) }
+    ensures written { buf.new ≡ sets buf.old to (followed 0x3B (map (name_of names.entry.text.now names.entry.ends.now) (elements_of code (length part.now) part.now))) }
 {
-    let mut left = count;
-    let mut at = from;
     let mut next = to;
-    while 0 < left {
-        let x = elements::bits_at(part, at, code);
+    for element in part.chunks_exact(width) {
+        let x = elements::bits_at(element, 0, code);
         next = pieces::put_byte(buf, next, b';');
-        next = pieces::put_part(buf, next, names::name_at(text, ends, x));
-        at += width as usize;
-        left -= 1;
+        next = pieces::put_part(buf, next, names.at(x));
     }
     next
 }
 
 // The names of a part's offsets, joined by semicolons; a dot where there are none.
-fn put_listed(buf: &mut [u8], to: usize, part: &[u8], code: u8, text: &[u8], ends: &[u32]) -> usize
-    ensures next { result ≡ after to (length (names_text (name_of text.now ends.now) code part.now)) }
-    ensures written { buf.new ≡ sets buf.old to (names_text (name_of text.now ends.now) code part.now) }
+fn put_listed(buf: &mut [u8], to: usize, part: &[u8], code: u8, names: Names<'_>) -> usize
+    ensures next { result ≡ after to (length (names_text (name_of names.entry.text.now names.entry.ends.now) code part.now)) }
+    ensures written { buf.new ≡ sets buf.old to (names_text (name_of names.entry.text.now names.entry.ends.now) code part.now) }
 {
-    let row = types::row_of(code);
-    let width = row.width;
-    let count = words::over(part.len(), width as usize);
-    if count == 0 {
+    let width = usize::from(types::row_of(code).width);
+    if words::over(part.len(), width) == 0 {
         return pieces::put_byte(buf, to, b'.');
     }
     let x = elements::bits_at(part, 0, code);
-    let next = pieces::put_part(buf, to, names::name_at(text, ends, x));
-    put_names(
-        buf,
-        next,
-        part,
-        width as usize,
-        code,
-        width,
-        count - 1,
-        text,
-        ends,
-    )
+    let next = pieces::put_part(buf, to, names.at(x));
+    put_names(buf, next, &part[width..], code, width, names)
 }
 
 // FILTER, with a tab before it.
-pub fn put_filters(
-    buf: &mut [u8],
-    to: usize,
-    s: &[u8],
-    site: Site,
-    text: &[u8],
-    ends: &[u32],
-) -> usize
-    ensures next { result ≡ after to (length (filters_text (name_of text.now ends.now) site s.now)) }
-    ensures written { buf.new ≡ sets buf.old to (filters_text (name_of text.now ends.now) site s.now) }
+pub fn put_filters(buf: &mut [u8], to: usize, s: &[u8], site: Site, names: Names<'_>) -> usize
+    ensures next { result ≡ after to (length (filters_text (name_of names.entry.text.now names.entry.ends.now) site s.now)) }
+    ensures written { buf.new ≡ sets buf.old to (filters_text (name_of names.entry.text.now names.entry.ends.now) site s.now) }
 {
-    let f = fetch::field_of(s, site, Kind::Filter, 0);
-    let Found::Field {
-        key: _,
-        code,
-        len: _,
-        place,
-        stop,
-    } = f
+    let Ok(
+        Found {
+            code,
+            place,
+            stop,
+            ..
+        },
+    ) = fetch::field_of(s, site, Kind::Filter, 0)
     else {
         return to;
     };
     let next = pieces::put_byte(buf, to, b'\t');
-    put_listed(buf, next, &s[place..stop], code, text, ends)
+    put_listed(buf, next, &s[place..stop], code, names)
 }

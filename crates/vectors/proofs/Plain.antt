@@ -2,10 +2,9 @@
 use mathlib.Core.Path.{◌≡◌, refl}
 use mathlib.Core.List.{List, [], ◌∷◌}
 use mathlib.Core.Bool.{Bool, true, false, ◌&&◌}
-use Prim.Native.Nat.{ℕ, zero, suc, ◌+◌, ◌-◌, ◌*◌, ◌/◌, ◌<◌, ◌≤◌}
+use Prim.Native.Nat.{ℕ, zero, suc, ◌+◌, ◌-◌, ◌*◌, ◌<◌, ◌≤◌}
 use native.Mathlib.Omega.{arith}
-use native.Mathlib.Numerals.{sub-one}
-use native.Mathlib.Nat.{suc-mul, suc-add, zero-add, add-zero, zero-mul, add_comm, add_assoc, add-mul, mul_assoc, mul-suc, div-zero, zero-div}
+use native.Mathlib.Nat.{suc-mul, suc-add, zero-add, add-zero, zero-mul, add_comm, add_assoc, add-mul, mul_assoc, mul-suc}
 use lib.Dec.{ltb, eqb}
 use lib.ListN.{drop, get_or}
 use lib.Seq.{drop-drop}
@@ -17,32 +16,22 @@ use Rattle.types.specs.Elements.{kind, marked}
 use Rattle.types.specs.declared.Element.{Element}
 use Rattle.types.specs.declared.Element.TheVariants.{Plain, Missing, End, Reserved}
 use Rattle.vectors.specs.Engine.{passed, all_passed, AllOn}
-use Rattle.vectors.specs.Vectors.{numbers, element_turn, vector, vectors, and_then}
-use Rattle.vectors.specs.declared.Judged.{Judged}
-use Rattle.vectors.specs.declared.Judged.TheVariants.{Sound, Refused as Unsound}
-use Rattle.vectors.specs.declared.Turn.TheVariants.{Bad, On}
-
--- one turn of a sweep, and its two ends
-pub sweep_turn : (s : List ℕ) (low high missing most w n at : ℕ) (b : Bool) → 0 < n
-    → pick b (all_passed low high missing most (numbers w n (drop at s))) false
-    ≡ pick (pick b (passed low high missing most (number w (drop at s))) false) (all_passed low high missing most (numbers w (n - 1) (drop (at + w) s))) false
-unfolding all_passed numbers
-sweep_turn s low high missing most w zero at b h = absurd (omega arith)
-sweep_turn s low high missing most w (suc n) at true h = rw (sub-one, drop-drop w at s)
-sweep_turn s low high missing most w (suc n) at false h = refl
+use Rattle.std.specs.Prelude.{Result, Err, Ok}
+use Rattle.values.specs.Answers.{Answer}
+use Rattle.vectors.specs.Vectors.{numbers, element_turn, vector, vectors, and_then, Sound}
 
 pub and_pick : (a b : Bool) → a && b ≡ pick a b false
 and_pick true b = refl
 and_pick false b = refl
 
 -- a larger most takes no less
-pub on_more : (top most x : ℕ) (k : Element) → top ≤ most → element_turn top false k x ≡ On false → element_turn most false k x ≡ On false
+pub on_more : (top most x : ℕ) (k : Element) → top ≤ most → element_turn top false k x ≡ Ok false → element_turn most false k x ≡ Ok false
 on_more top most x Missing h e = refl
 on_more top most x End h e = e
 on_more top most x Reserved h e = e
 on_more top most x Plain h e = by-test (ltb top x) refl e
   where
-    by-test : (b : Bool) → ltb top x ≡ b → pick b (Bad 10) (On false) ≡ On false → pick (ltb most x) (Bad 10) (On false) ≡ On false
+    by-test : (b : Bool) → ltb top x ≡ b → pick {A = Result Bool ℕ} b (Err 10) (Ok false) ≡ Ok false → pick {A = Result Bool ℕ} (ltb most x) (Err 10) (Ok false) ≡ Ok false
     by-test true q g = cc
     by-test false q g = let r : x ≤ top = ltb-false _ _ q in rw (le-ltb most x (omega arith))
 
@@ -52,7 +41,7 @@ all_more top most t (x ∷ xs) h a = (on_more top most x (kind t x) h a.0, all_m
 
 -- what passes outside the marks of a type goes on
 abbrev pub Passing : ℕ → ℕ → ℕ → ℕ → ℕ → Type 0
-Passing t low high missing most = (x : ℕ) → passed low high missing most x ≡ true → element_turn most false (kind t x) x ≡ On false
+Passing t low high missing most = (x : ℕ) → passed low high missing most x ≡ true → element_turn most false (kind t x) x ≡ Ok false
 
 pub all_on : (t low high missing most : ℕ) → Passing t low high missing most → (xs : List ℕ)
     → all_passed low high missing most xs ≡ true → AllOn most t xs
@@ -67,21 +56,21 @@ all_on t low high missing most p (x ∷ xs) e = by-test (passed low high missing
 
 -- marks in a row, and text's one mark
 marked_on : (missing last most x : ℕ) → missing < last → passed (missing + 1) last missing most x ≡ true
-    → element_turn most false (marked missing last x) x ≡ On false
+    → element_turn most false (marked missing last x) x ≡ Ok false
 unfolding passed marked
 marked_on missing last most x p h = by_most (ltb most x) refl h
   where
     by_most : (b : Bool) → ltb most x ≡ b → pick b (eqb x missing) (pick (ltb x (missing + 1)) true (ltb last x)) ≡ true
-        → element_turn most false (marked missing last x) x ≡ On false
+        → element_turn most false (marked missing last x) x ≡ Ok false
     by_most true q g =
         let e : x ≡ missing = eqb-true _ _ g in
         rw (le-ltb x missing (omega arith), le-ltb last x (omega arith), eq-eqb x missing e)
     by_most false q g = by-low (ltb x (missing + 1)) refl g
       where
-        by-low : (b : Bool) → ltb x (missing + 1) ≡ b → pick b true (ltb last x) ≡ true → element_turn most false (marked missing last x) x ≡ On false
+        by-low : (b : Bool) → ltb x (missing + 1) ≡ b → pick b true (ltb last x) ≡ true → element_turn most false (marked missing last x) x ≡ Ok false
         by-low true r f = by-mark (ltb x missing) refl
           where
-            by-mark : (b : Bool) → ltb x missing ≡ b → element_turn most false (marked missing last x) x ≡ On false
+            by-mark : (b : Bool) → ltb x missing ≡ b → element_turn most false (marked missing last x) x ≡ Ok false
             by-mark true s = rw (s, q)
             by-mark false s =
                 let u : x < missing + 1 = ltb-true _ _ r in
@@ -112,14 +101,14 @@ unfolding kind passed
 on_7 most x h = by_most (ltb most x) refl h
   where
     by_most : (b : Bool) → ltb most x ≡ b → pick b (eqb x 0) (pick (ltb x 0) true (ltb 0 x)) ≡ true
-        → element_turn most false (pick (eqb x 0) End Plain) x ≡ On false
+        → element_turn most false (pick (eqb x 0) End Plain) x ≡ Ok false
     by_most true q g =
         let e : x ≡ 0 = eqb-true _ _ g in
         let r : most < x = ltb-true _ _ q in
         absurd (omega arith)
     by_most false q g = by-low (ltb x 0) refl g
       where
-        by-low : (b : Bool) → ltb x 0 ≡ b → pick b true (ltb 0 x) ≡ true → element_turn most false (pick (eqb x 0) End Plain) x ≡ On false
+        by-low : (b : Bool) → ltb x 0 ≡ b → pick b true (ltb 0 x) ≡ true → element_turn most false (pick (eqb x 0) End Plain) x ≡ Ok false
         by-low true r f = let u : x < 0 = ltb-true _ _ r in absurd (omega arith)
         by-low false r f =
             let u : 0 < x = ltb-true _ _ f in
@@ -149,8 +138,8 @@ vectors_on most t w len (suc n) at l h =
     let r = on_split most t w len (n * len) l g in
     rw (vector_on most t w at (numbers w len l) r.0) (vectors_on most t w len n (at + len * w) (drop (len * w) l) r.1)
 
-and_and : (a b d : Judged) → and_then a (and_then b d) ≡ and_then (and_then a b) d
-and_and (Unsound r) b d = refl
+and_and : (a b d : Answer (Unit {0})) → and_then a (and_then b d) ≡ and_then (and_then a b) d
+and_and (Err r) b d = refl
 and_and Sound b d = refl
 
 -- so many vectors and then others
@@ -161,13 +150,6 @@ unfolding vectors
 vectors_add most t w len zero n at l = rw (zero-add, zero-mul, add-zero)
 vectors_add most t w len (suc m) n at l =
     rw (suc-add m n, vectors_add most t w len m n (at + len * w) (drop (len * w) l), and_and, drop-drop (m * (len * w)) (len * w) l, suc-mul m (len * w), add_comm (m * (len * w)) (len * w), add_assoc)
-
-pub vectors_block : (s : List ℕ) (most t w len n k at : ℕ) → k ≤ n
-    → vectors most t w len n at (drop at s)
-    ≡ and_then (vectors most t w len k at (drop at s)) (vectors most t w len (n - k) (at + k * (len * w)) (drop (at + k * (len * w)) s))
-vectors_block s most t w len n k at h =
-    let e : k + (n - k) ≡ n = omega arith in
-    rw (← drop-drop (k * (len * w)) at s, ← vectors_add most t w len k (n - k) at (drop at s), e)
 
 -- room for n vectors is room for k of them and for the others
 pub block_room : (at n k w m : ℕ) → k ≤ n → at + n * w ≤ m → at + k * w + (n - k) * w ≤ m
@@ -184,11 +166,6 @@ block_one at n (suc k) w m p h r = omega (arith, suc-mul k w, block_room at n (s
 pub elements_fit : (n len w m : ℕ) → 0 < w → n * (len * w) ≤ m → n * len ≤ m
 elements_fit n len zero m p h = absurd (omega arith)
 elements_fit n len (suc w) m p h = omega (arith, mul_assoc n len (suc w), mul-suc (n * len) w)
-
--- where there is a vector, its elements have a width
-pub some_width : (m w len n : ℕ) → 0 < n → n ≤ m / w / len → 0 < w
-some_width m zero len n p h = let q = rw (div-zero m, zero-div len) at h in absurd (omega (arith, q))
-some_width m (suc w) len n p h = omega arith
 
 -- the widths of the types whose elements are swept
 pub width_1 : width_of 1 ≡ 1

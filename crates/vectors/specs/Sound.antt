@@ -1,15 +1,12 @@
 -- A value that is sound: all its elements are there, and each is judged by the value's use. Rests on values and on vectors.
-use Rattle.std.specs.Prelude.{ℕ, ◌+◌, ◌-◌, ◌*◌, ◌/◌, List, ltb, eqb, take, drop}
+use Rattle.std.specs.Prelude.{ℕ, ◌+◌, ◌-◌, ◌*◌, ◌/◌, List, ltb, eqb, take, drop, Err, Ok}
 use Rattle.words.specs.Pick.{pick}
 use Rattle.types.specs.declared.Use.{Use}
 use Rattle.types.specs.declared.Use.TheVariants.{Id, Allele, Filter, Integer, Info, Format, Gt}
-use Rattle.values.specs.Answers.{refusal}
+use Rattle.values.specs.Answers.{refusal, Answer, whole}
 use Rattle.values.specs.Values.{present}
 use Rattle.values.specs.declared.Value.{Value}
-use Rattle.values.specs.declared.Value.TheVariants.{Present, Refused as NoValue}
-use Rattle.vectors.specs.Vectors.{judged}
-use Rattle.vectors.specs.declared.Judged.{Judged}
-use Rattle.vectors.specs.declared.Judged.TheVariants.{Sound, Refused as Unsound}
+use Rattle.vectors.specs.Vectors.{judged, Sound}
 
 -- the largest number of an integer type
 unfoldable pub highest : ℕ → ℕ
@@ -30,15 +27,15 @@ most_of Info alleles t = 0xFFFFFFFF
 most_of Format alleles t = 0xFFFFFFFF
 
 -- elements that were judged from `first` on: the value stands, or the refusal at its place in the block
-abbrev pub judged_from : ℕ → Value → Judged → Value
+abbrev pub judged_from : ℕ → Answer Value → Answer (Unit {0}) → Answer Value
 judged_from first v Sound = v
-judged_from first v (Unsound r) = NoValue (refusal r.number (first + r.place))
+judged_from first v (Err r) = Err (refusal r.number (first + r.place))
 
-abbrev pub soundly : ℕ → Use → ℕ → List ℕ → Value → Value
-soundly alleles role at l (NoValue r) = NoValue r
-soundly alleles role at l (Present t n first stop) =
-    judged_from first (Present t n first stop) (judged (most_of role alleles t) t n (take (stop - first) (drop (first - at) l)))
+abbrev pub soundly : ℕ → Use → ℕ → List ℕ → Answer Value → Answer Value
+soundly alleles role at l (Err r) = Err r
+soundly alleles role at l (Ok v) =
+    judged_from v.first (whole v.code v.len v.first v.stop) (judged (most_of role alleles v.code) v.code v.len (take (v.stop - v.first) (drop (v.first - at) l)))
 
 -- a value at the front of a list: so many vectors of its length, all there and sound
-unfoldable pub sound : ℕ → ℕ → Use → ℕ → List ℕ → Value
+unfoldable pub sound : ℕ → ℕ → Use → ℕ → List ℕ → Answer Value
 sound vectors alleles role at l = soundly alleles role at l (present vectors role at l)

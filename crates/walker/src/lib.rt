@@ -16,82 +16,60 @@ pub struct Walker<'a> {
     pub at: usize,
 }
 
-// A pair: its key, its value's type, length and place as fetching gives them, and the place after it; or the end.
-#[derive(Clone, Copy)]
-pub enum Pair {
-    Found {
-        key: u32,
-        code: u8,
-        len: u32,
-        place: usize,
-        next: usize,
-    },
-    End,
-}
-
-// What opening answers: reading's refusal, or the place of the first pair.
-#[derive(Clone, Copy)]
-pub enum Opening {
-    First(usize),
-    Refused(Refusal),
+// A pair: its key, its value's type, length and place as fetching gives them, and the place after it.
+#[derive(Clone, Copy, Debug, PartialEq, Eq)]
+pub struct Pair {
+    pub key: u32,
+    pub code: u8,
+    pub len: u32,
+    pub place: usize,
+    pub next: usize,
 }
 
 // A field as a pair; where none stands whole, the end.
-fn as_pair(f: Found) -> Pair
-    ensures { result ≡ as_pair f }
+fn as_pair(field: Result<Found, Refusal>) -> Option<Pair>
+    ensures { result ≡ as_pair field }
 {
-    match f {
-        Found::Field {
-            key,
-            code,
-            len,
-            place,
-            stop,
-        } => Pair::Found {
-            key,
-            code,
-            len,
-            place,
-            next: stop,
-        },
-        Found::Refused(_) => Pair::End,
+    match field {
+        Ok(found) => Some(Pair {
+            key: found.key,
+            code: found.code,
+            len: found.len,
+            place: found.place,
+            next: found.stop,
+        }),
+        Err(_) => None,
     }
 }
 
 // The pair at a place of a site block that is lent up to its end.
-fn pair_in(block: &[u8], at: usize) -> Pair
+fn pair_in(block: &[u8], at: usize) -> Option<Pair>
     ensures { result ≡ pair_in at (drop at block.now) }
 {
     as_pair(fetch::field_at(block, at, Kind::Info, 1))
 }
 
 // The whole INFO pair at a place of a record, before the end of its site block; else the end, and so where that block is not all lent.
-pub fn pair_at(s: &[u8], at: usize) -> Pair
+pub fn pair_at(s: &[u8], at: usize) -> Option<Pair>
     ensures { result ≡ pair_at s.now at }
 {
     if s.len() < 8 {
-        return Pair::End;
+        return None;
     }
     let end = 8 + words::word_at(s, 0, 4) as usize;
     if s.len() < end {
-        return Pair::End;
+        return None;
     }
     pair_in(&s[..end], at)
 }
 
 // The place after a pair; at the end the place itself.
-pub fn after(p: Pair, at: usize) -> usize
-    ensures { result ≡ after_pair p at }
+pub fn after(pair: Option<Pair>, at: usize) -> usize
+    ensures { result ≡ after_pair pair at }
 {
-    match p {
-        Pair::Found {
-            key: _,
-            code: _,
-            len: _,
-            place: _,
-            next,
-        } => next,
-        Pair::End => at,
+    match pair {
+        Some(pair) => pair.next,
+        None => at,
     }
 }
 
@@ -103,25 +81,13 @@ pub fn next_at(s: &[u8], at: usize) -> usize
 }
 
 // The place of the first INFO pair, where a walker over a record starts, or reading's refusal. `new` makes the walker of it.
-pub fn opening_of(s: &[u8], facts: Facts) -> Opening
+#[tactic(auto, unfolding(crate::specs::Walk::opened))]
+pub fn opening_of(s: &[u8], facts: Facts) -> Result<usize, Refusal>
     ensures { result ≡ opened facts s.now }
 {
-    let r = record::read(s, facts);
-    let Reading::Accepted { site, gt: _ } = r else {
-        return Opening::Refused(record::reading_refusal(r));
-    };
-    let f = fetch::field_of(s, site, Kind::Filter, 0);
-    let Found::Field {
-        key: _,
-        code: _,
-        len: _,
-        place: _,
-        stop,
-    } = f
-    else {
-        return Opening::Refused(fetch::found_refusal(f));
-    };
-    Opening::First(stop)
+    let Reading { site, .. } = record::read(s, facts)?;
+    let Found { stop, .. } = fetch::field_of(s, site, Kind::Filter, 0)?;
+    Ok(stop)
 }
 
 // The walker of a lent record that stands at a place.
@@ -132,7 +98,7 @@ pub fn new<'a>(s: &'a [u8], at: usize) -> Walker<'a>
 }
 
 // The pair that the walker stands at.
-pub fn peek<'a>(w: Walker<'a>) -> Pair
+pub fn peek<'a>(w: Walker<'a>) -> Option<Pair>
     ensures { result ≡ pair_at w.entry.bytes.now w.entry.at }
 {
     pair_at(w.bytes, w.at)
@@ -149,7 +115,7 @@ pub fn moved<'a>(w: Walker<'a>) -> Walker<'a>
 }
 
 // The walker past a pair that is known: nothing is decoded again.
-pub fn advance<'a>(w: Walker<'a>, p: Pair) -> Walker<'a>
+pub fn advance<'a>(w: Walker<'a>, p: Option<Pair>) -> Walker<'a>
     ensures { result ≡ advanced w.entry p }
 {
     Walker {
@@ -159,7 +125,7 @@ pub fn advance<'a>(w: Walker<'a>, p: Pair) -> Walker<'a>
 }
 
 // The pair that the walker stands at; the walker is lent, and moves on past it.
-pub fn next<'s, 'a>(w: &'s mut Walker<'a>) -> Pair
+pub fn next<'s, 'a>(w: &'s mut Walker<'a>) -> Option<Pair>
     ensures { (result ≡ pair_at w.old.bytes.now w.old.at) × (w.new ≡ moved_on w.old) }
 {
     let at = w.at;

@@ -1,13 +1,12 @@
 -- `c_answers::tell_calls` meets its contract.
-use mathlib.Core.Path.{◌≡◌, ◌∙◌, sym, refl, ap}
+use mathlib.Core.Path.{◌≡◌, ◌∙◌, sym, refl}
 use mathlib.Core.List.{List, ◌∷◌, ◌++◌, []}
 use native.Mathlib.Omega.{arith}
 use Prim.Native.Nat.{ℕ, ◌+◌, ◌<◌, ◌≤◌}
 use lib.ListN.{length}
-use Rattle.stores.specs.Stores.{filled}
 use Rattle.stores.proofs.Room.{filled_short, filled_room, filled_append}
 use Rattle.c_answers.specs.Told.{tally_numbers}
-use Rattle.c_answers.proofs.Room.{told_short, told_room}
+use Rattle.c_answers.proofs.Room.{told_short, told_room, stored_numbers}
 use Rattle.c_answers.proofs.tell_calls.Goals as goal
 
 pub returns-then-out-lt68 : goal.returns-then-out-lt68
@@ -30,5 +29,5 @@ returns c =
     let h : 0 + length (first ++ a.calls.counts) ≤ length a.out.now = omega (arith, q, k) in
     let both = filled_append a.out.now 0 3 first a.calls.counts refl h ∙ sym (filled_room a.out.now 0 (first ++ a.calls.counts) h) in record {
       told = c.answer_of-2.ensures ∙ sym (told_room _ (tally_numbers a.site a.calls) _ (omega (arith, h)));
-      written = c.put_numbers-2.ensures ∙ ap (λ (o : List ℕ). filled o 3 a.calls.counts) c.put_numbers.ensures ∙ both;
+      written = rw (c.put_all-2.ensures, c.put_all.ensures, stored_numbers, stored_numbers) both;
     }

@@ -6,6 +6,6 @@ use Rattle.c_api.proofs.sikalumdo_choose.Goals as goal
 pub returns : goal.returns
 returns c =
     record {
-      told = c.tell_choosing.ensures ∙ ap choosing_answer c.choose.ensures.told;
+      told = c.tell_one.ensures ∙ ap choosing_answer c.choose.ensures.told;
       written = c.choose.ensures.written;
     }

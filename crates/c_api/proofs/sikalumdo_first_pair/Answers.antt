@@ -5,4 +5,4 @@ use Rattle.c_api.proofs.sikalumdo_first_pair.Goals as goal
 
 pub returns : goal.returns
 returns c =
-    c.tell_opening.ensures ∙ ap opening_answer c.opening_of.ensures
+    c.tell_one.ensures ∙ ap opening_answer c.opening_of.ensures

@@ -6,6 +6,6 @@ use Rattle.c_api.proofs.sikalumdo_vcf_line.Goals as goal
 pub returns : goal.returns
 returns c =
     record {
-      told = c.tell_line.ensures ∙ ap line_number c.write_line.ensures.told;
+      told = c.tell_one.ensures ∙ ap line_number c.write_line.ensures.told;
       written = c.write_line.ensures.written;
     }

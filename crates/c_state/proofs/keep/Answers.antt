@@ -2,11 +2,11 @@
 use Rattle.c_answers.specs.Told.{refused_answer}
 use Rattle.c_state.proofs.keep.Goals as goal
 
-pub returns-in_default : goal.returns-in_default
-returns-in_default c =
-    record { told = rw c.in_default.is c.answer_of.ensures; written = rw c.in_default.is c.put_state.ensures }
+pub returns-in-Ok : goal.returns-in-Ok
+returns-in-Ok c =
+    record { told = rw c.in-Ok.is c.answer_of.ensures; written = rw c.in-Ok.is c.put_state.ensures }
 
-pub returns : goal.returns
+pub returns-in-Err : goal.returns-in-Err
 unfolding refused_answer
-returns c =
-    record { told = rw c.in-Refused.is c.refused_answer.ensures; written = rw c.in-Refused.is }
+returns-in-Err c =
+    record { told = rw c.in-Err.is c.refused_answer.ensures; written = rw c.in-Err.is }

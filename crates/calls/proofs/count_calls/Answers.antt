@@ -1,75 +1,121 @@
--- `calls::count_calls` meets its contract. The loop's invariant: the part's tally is the one under way and the people that are left, who have room;
--- no pair of counters is above the place; and no more are left than the part has.
-use mathlib.Core.Path.{◌≡◌, refl, ◌∙◌}
-use native.Mathlib.Nat.{add-zero}
+-- `calls::count_calls` meets its contract.
+use mathlib.Core.List.{List, []}
+use mathlib.Core.Path.{◌≡◌, ap, refl, sym, ◌∙◌}
+use Prim.Native.Nat.{ℕ, ◌+◌, ◌-◌, ◌*◌, ◌/◌, ◌%◌, ◌<◌, ◌≤◌, ◌^◌}
 use native.Mathlib.Omega.{arith}
-use Rattle.vectors.proofs.Plain.{block_room, block_one}
-use Rattle.vectors.proofs.Turns.{vectors_fit}
+use native.Mathlib.Nat.{add-zero, mul-mod_left, zero-add}
+use lib.ListN.{length, length-append, length-take, replicate, take}
+use Rattle.std.specs.Slice.Iter.{chunks_rest}
+use Rattle.types.specs.Rows.{width_of}
 use Rattle.calls.specs.Calls as spec
-use Rattle.calls.specs.Engine.{folded}
-use Rattle.calls.proofs.Counters.{raised_none, wider, zeros}
-use Rattle.calls.proofs.Turns.{onward_start, onward_block, some_width, some_length}
-use borrow.Author.Rules.{rules}
+use Rattle.calls.specs.Engine.{everyone, raised, folded}
+use Rattle.calls.proofs.Chunks.{block_fits, block_whole, everyone_of, people_fit, rest_whole}
+use Rattle.calls.proofs.Counters.{raised_none, raised_zeros, wider, zeros}
+use Rattle.calls.proofs.Halves.{block_within}
+use Rattle.calls.proofs.Turns.{block_turn, people_end, some_size, some_width}
 use Rattle.calls.proofs.count_calls.Goals as goal
 
-pub loop-left-init : goal.loop-left-init
-unfolding spec.counted spec.people_of folded
-loop-left-init c =
-    let w = c.row_of-row.ensures.width_value.0 in
-    let n = c.over.ensures.value in
-    let p = c.over-left.ensures.value in (
-      onward_start _ _ ∙ simp (← w, ← n, ← p),
-      vectors_fit _ _ _ _ _ c.over-left.ensures.b_bound c.over.ensures.b_bound,
-      zeros 65 _,
-      refl,
-      search rules,
-      simp (← n, ← p) (omega arith),
-    )
+-- nobody's tally
+nobody : (t len : ℕ) (l : List ℕ) → length l / width_of t / len ≡ 0 → record { without = 0; counts = replicate 65 0 } ≡ spec.counted t len l
+unfolding spec.counted spec.people_tally spec.people_of spec.people spec.without spec.called
+nobody t len l h = rw (h, ← raised_zeros 65 0 [], raised_none)
 
-pub count_block-without-requires : goal.count_block-without-requires
-count_block-without-requires c =
-    let l = c.loop-left in
-    let h = c.loop-left-test.true in
-    let k = c.together-k.ensures in
-    let w = c.row_of-row.ensures.width_value in record {
-      w_in_bounds = (omega (arith, block_room _ _ _ _ _ k.1 l.invariant.1), some_width _ _ _ _ h l.invariant.5, w.1, w.2, w.0, k.0, some_length _ _ _ _ h l.invariant.5);
-      pairs_len = (l.invariant.3, l.invariant.2);
-    }
+-- a tally as it starts
+tally_start : (t w len n : ℕ) (l rest : List ℕ) → rest ≡ take (n * (len * w)) l → w ≡ width_of t → n ≡ length l / w / len
+    → 0 < len * w → n * (len * w) ≤ length l
+    → (spec.without t (spec.people_of t len l) ≡ 0 + spec.without t (everyone w len rest))
+    × (spec.counters 65 0 (spec.called t (spec.people_of t len l)) ≡ raised 0 (folded (replicate 130 0)) (spec.called t (everyone w len rest)))
+    × spec.AtMost (2 ^ 64 - 1 - length rest) (folded (replicate 130 0))
+    × (0 + length rest ≤ length l) × (length rest % (len * w) ≡ 0)
+unfolding folded
+tally_start t w len n l rest e a b p h =
+    let f : everyone w len rest ≡ spec.people_of t len l = rw e (everyone_of t w len n l a b p h) in
+    let k : length rest ≡ n * (len * w) = rw (e, length-take) (omega arith) in
+    (rw f (sym (zero-add _)), rw f (sym (raised_zeros 65 0 _)), zeros 65 _, omega arith, rw k (mul-mod_left n (len * w)))
 
-pub overflow_add-without : goal.overflow_add-without
-overflow_add-without c = let b = c.count_block-without.ensures.upper_bound.0 in omega arith
+pub returns-then-people-eq0 : goal.returns-then-people-eq0
+returns-then-people-eq0 c =
+    nobody c.args.code c.args.len c.args.part.now
+    (rw (← c.row_of.ensures.width_value.0, ← c.from-w.ensures, ← c.over.ensures.value, ← c.over-people.ensures.value) c.if-people-eq0.true)
 
-pub overflow_mul-at : goal.overflow_mul-at
-overflow_mul-at c =
-    let k = c.together-k.ensures in
-    omega (arith, block_one _ _ _ _ _ k.0 k.1 c.loop-left.invariant.1)
+pub overflow_mul-people : goal.overflow_mul-people
+overflow_mul-people c =
+    let p = people_fit c.over-people.result _ c.args.len c.from-w.result _ (omega arith) c.over-people.ensures.b_bound c.over.ensures.b_bound in
+    omega arith
 
-pub overflow_mul-at-in-loop-left : goal.overflow_mul-at-in-loop-left
-overflow_mul-at-in-loop-left c = omega (arith, block_room _ _ _ _ _ c.together-k.ensures.1 c.loop-left.invariant.1)
+pub slice_bounds-chunks-end : goal.slice_bounds-chunks-end
+slice_bounds-chunks-end c =
+    let p = people_fit c.over-people.result _ c.args.len c.from-w.result _ (omega arith) c.over-people.ensures.b_bound c.over.ensures.b_bound in
+    rw length-take (omega arith)
 
-pub overflow_add-at : goal.overflow_add-at
-overflow_add-at c = omega (arith, block_room _ _ _ _ _ c.together-k.ensures.1 c.loop-left.invariant.1)
+pub overflow_mul-size-2 : goal.overflow_mul-size-2
+overflow_mul-size-2 c =
+    let p = people_fit c.over-people.result _ c.args.len c.from-w.result _ (omega arith) c.over-people.ensures.b_bound c.over.ensures.b_bound in
+    let w = c.row_of.ensures.width_value in
+    let b = block_fits c.args.len c.from-w.result (2 ^ 63) (omega arith) (omega arith) (omega arith) in
+    let e : c.args.len * c.from-w.result * c.max.result ≤ 2 ^ 63 = rw c.max.ensures b in
+    omega arith
 
-pub loop-left-preserved : goal.loop-left-preserved
-loop-left-preserved c =
-    let l = c.loop-left in
-    let h = c.together-k.ensures.1 in
+pub loop-block-init : goal.loop-block-init
+loop-block-init c =
+    let w = c.from-w.result in
+    let n = c.over-people.result in
+    let l = c.args.part.now in
+    let p = people_fit n _ c.args.len w _ (omega arith) c.over-people.ensures.b_bound c.over.ensures.b_bound in
+    let q = rw c.over.ensures.value at c.over-people.ensures.value in
+    let s = some_size (length l) w c.args.len (omega arith) in
+    let e : chunks_rest c.into_iter-block-iterator.result ≡ take (n * (c.args.len * w)) l = cc in
+    let f = tally_start c.args.code w c.args.len n l _ e (c.from-w.ensures ∙ c.row_of.ensures.width_value.0) q s p.0 in
+    (f.0, f.1, f.2, refl, f.3, f.4, cc)
+
+pub count_block-without-requires-clause-w_in_bounds : goal.count_block-without-requires-clause-w_in_bounds
+count_block-without-requires-clause-w_in_bounds c =
+    let w = c.from-w.result in
+    let l = c.args.part.now in
+    let p = people_fit c.over-people.result _ c.args.len w _ (omega arith) c.over-people.ensures.b_bound c.over.ensures.b_bound in
+    let q = rw c.over.ensures.value at c.over-people.ensures.value in
+    (some_width (length l) w c.args.len c.over-people.result (omega arith) (omega arith), omega arith, some_size (length l) w c.args.len (omega arith), omega arith)
+
+pub count_block-without-requires-clause-whole : goal.count_block-without-requires-clause-whole
+count_block-without-requires-clause-whole c =
+    let l = c.loop-block in
+    let h = c.in-Some.ensures.steps in
+    (c.from-w.ensures ∙ c.row_of.ensures.width_value.0, rw (h.1.1, l.invariant.6) (block_whole (c.args.len * c.from-w.result) _ _ l.invariant.5))
+
+pub loop-block-preserved : goal.loop-block-preserved
+loop-block-preserved c =
+    let t = c.args.code in
+    let w = c.from-w.result in
+    let len = c.args.len in
+    let l = c.loop-block in
+    let h = c.in-Some.ensures.steps in
     let r = c.count_block-without.ensures in
-    let b = r.upper_bound.0 in (
-      l.invariant.0 ∙ rw (onward_block _ _ _ _ _ _ _ _ _ h, ← r.value, ← r.pairs_after),
-      block_room _ _ _ _ _ h l.invariant.1,
-      r.upper_bound.2,
+    let b = c.in-Some.block.now in
+    let q = rw c.over.ensures.value at c.over-people.ensures.value in
+    let o : 0 < w = some_width (length c.args.part.now) w len c.over-people.result (omega arith) (omega arith) in
+    let s : 0 < len * w = some_size (length c.args.part.now) w len (omega arith) in
+    let z : length b % (len * w) ≡ 0 = rw (h.1.1, l.invariant.6) (block_whole (len * w) _ _ l.invariant.5) in
+    let g = block_turn t w len _ _ _ (folded l.pairs) s h.1.0 z in
+    let n = simp length-append at (ap length h.1.0) in
+    let u = r.upper_bound.0 in (
+      omega (arith, g.0, r.value),
+      l.invariant.1 ∙ rw (g.1, ← r.pairs_after),
+      rw r.pairs_after (wider _ _ _ (omega arith) (block_within _ t w len (folded l.pairs) b o l.invariant.2)),
       r.upper_bound.1,
       omega arith,
-      omega (arith, l.invariant.5),
+      rest_whole (len * w) (length b) _ (rw n at l.invariant.5) z,
+      h.0 ∙ l.invariant.6,
     )
 
-pub sum_pairs-requires : goal.sum_pairs-requires
-sum_pairs-requires c = let l = c.loop-left in (l.invariant.3, wider _ _ (folded l.pairs) (omega arith) l.invariant.2)
-
 pub returns : goal.returns
-unfolding spec.people spec.called spec.without
+unfolding spec.counted spec.people_tally
 returns c =
-    let l = c.loop-left in
-    let z : l.left ≡ 0 = omega arith in
-    rw (l.invariant.0, z, add-zero, raised_none, c.sum_pairs.ensures)
+    let t = c.args.code in
+    let w = c.from-w.result in
+    let len = c.args.len in
+    let l = c.loop-block in
+    let h = c.in-None.ensures.steps in
+    let q = rw c.over.ensures.value at c.over-people.ensures.value in
+    let s : 0 < len * w = some_size (length c.args.part.now) w len (omega arith) in
+    let e = people_end t w len (chunks_rest l.block-iterator) (folded l.pairs) (omega arith) in
+    sym (rw (l.invariant.0, l.invariant.1, e.0, e.1, add-zero, c.sum_pairs.ensures))

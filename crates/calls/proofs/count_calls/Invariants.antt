@@ -1,21 +1,20 @@
--- `calls::count_calls` meets its contract. The loop's invariant: the part's tally is the one under way and the people that are left, who have room;
--- no pair of counters is above the place; and no more are left than the part has.
+-- `calls::count_calls` meets its contract. The loop's invariant: the part's tally is the one under way and the people that are left, who are whole; and
+-- no pair of counters is so high that a slot for each byte left could wrap it.
 use mathlib.Core.Path.{◌≡◌}
-use Prim.Native.Nat.{◌+◌, ◌*◌, ◌/◌, ◌<◌, ◌≤◌, ◌^◌}
-use lib.ListN.{drop, length}
+use Prim.Native.Nat.{◌+◌, ◌*◌, ◌-◌, ◌%◌, ◌/◌, ◌^◌, ◌≤◌, max}
+use lib.ListN.{length}
+use Rattle.std.specs.Slice.Iter.{chunks_rest, chunks_size}
 use Rattle.calls.specs.Calls as spec
-use Rattle.calls.specs.Engine.{folded}
-use Rattle.calls.proofs.Turns.{onward}
+use Rattle.calls.specs.Engine.{everyone, raised, folded}
 use Rattle.calls.proofs.count_calls.Given as goal
 
-abbrev pub invariant-loop-left : goal.invariant-loop-left
-invariant-loop-left l =
-    (spec.counted l.code l.len l.part ≡ onward l.without (folded l.pairs) l.code (spec.people l.w l.len l.left (drop l.at l.part)))
-    × (l.at + l.left * (l.len * l.w) ≤ length l.part)
-    × spec.AtMost l.at (folded l.pairs)
+abbrev pub invariant-loop-block : goal.invariant-loop-block
+invariant-loop-block l =
+    let rest = chunks_rest l.block-iterator in
+    (spec.without l.code (spec.people_of l.code l.len l.part) ≡ l.without + spec.without l.code (everyone l.w l.len rest))
+    × (spec.counters 65 0 (spec.called l.code (spec.people_of l.code l.len l.part)) ≡ raised 0 (folded l.pairs) (spec.called l.code (everyone l.w l.len rest)))
+    × spec.AtMost (2 ^ 64 - 1 - length rest) (folded l.pairs)
     × (length l.pairs ≡ 130)
-    × (l.without + l.left < 2 ^ 64)
-    × (l.left ≤ length l.part / l.w / l.len)
-
-abbrev pub decreases-loop-left : goal.decreases-loop-left
-decreases-loop-left l = l.left
+    × (l.without + length rest ≤ length l.part)
+    × (length rest % (l.len * l.w) ≡ 0)
+    × (chunks_size l.block-iterator ≡ l.len * l.w * max (128 / l.len) 1)

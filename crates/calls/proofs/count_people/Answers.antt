@@ -1,57 +1,42 @@
--- `calls::count_people` meets its contract. The loop's invariant: the people that are left, counted on from what is counted, are all of them from
--- the start; those left have room; and no pair of counters is above the place.
-use mathlib.Core.Path.{◌≡◌, refl, sym, ◌∙◌}
-use native.Mathlib.Nat.{add-zero, zero-add}
+-- `calls::count_people` meets its contract.
+use mathlib.Core.Path.{ap, sym, ◌∙◌}
+use Prim.Native.Nat.{◌*◌, ◌<◌}
+use native.Mathlib.Nat.{add-zero}
 use native.Mathlib.Omega.{arith}
-use Rattle.values.proofs.Room.{room}
-use Rattle.calls.specs.Calls as spec
+use lib.ListN.{length, length-append}
+use Rattle.std.specs.Slice.Iter.{chunks_exact_rest}
 use Rattle.calls.specs.Engine.{folded}
-use Rattle.calls.proofs.Counters.{raised_none, wider}
-use Rattle.calls.proofs.Turns.{without_turn, called_turn}
-use borrow.Author.Rules.{rules}
+use Rattle.calls.proofs.Counters.{wider}
+use Rattle.calls.proofs.Halves.{person_within}
+use Rattle.calls.proofs.Turns.{people_turn, people_end}
 use Rattle.calls.proofs.count_people.Goals as goal
 
-pub loop-left-init : goal.loop-left-init
-loop-left-init c = (sym (zero-add _), refl, search rules, c.requires.pairs_len.1, c.requires.pairs_len.0, search rules)
-
-pub count_person-lacking-requires : goal.count_person-lacking-requires
-count_person-lacking-requires c =
-    let l = c.loop-left in
-    let p = c.requires.w_in_bounds in
-    record {
-      w_in_bounds = (omega (arith, room _ _ _ _ c.loop-left-test.true l.invariant.2), p.1, p.2, p.3);
-      pairs_len = (l.invariant.4, l.invariant.3);
-    }
-
-pub overflow_add-lacking : goal.overflow_add-lacking
-overflow_add-lacking c = let b = c.count_person-lacking.ensures.upper_bound.0 in omega arith
-
-pub overflow_mul-at : goal.overflow_mul-at
-overflow_mul-at c = omega (arith, room _ _ _ _ c.loop-left-test.true c.loop-left.invariant.2)
-
-pub overflow_add-at : goal.overflow_add-at
-overflow_add-at c = omega (arith, room _ _ _ _ c.loop-left-test.true c.loop-left.invariant.2)
-
-pub loop-left-preserved : goal.loop-left-preserved
-loop-left-preserved c =
-    let l = c.loop-left in
-    let h = c.loop-left-test.true in
+pub loop-person-preserved : goal.loop-person-preserved
+loop-person-preserved c =
+    let l = c.loop-person in
+    let a = c.args in
     let r = c.count_person-lacking.ensures in
+    let h = c.in-Some.ensures.steps in
+    let p = c.requires.w_in_bounds in
+    let t = people_turn a.code a.w a.len _ _ _ (folded l.pairs) p.0 p.2 h.1.0 (h.1.1 ∙ l.invariant.5) in
+    let n = simp length-append at (ap length h.1.0) in
     let b = r.upper_bound.0 in (
-      l.invariant.0 ∙ without_turn _ _ _ _ _ _ _ _ h r.value,
-      l.invariant.1 ∙ called_turn _ _ _ _ _ _ _ _ h r.pairs_after,
-      room _ _ _ _ h l.invariant.2,
-      r.upper_bound.2,
+      omega (arith, t.0, r.value),
+      l.invariant.1 ∙ rw (t.1, ← r.pairs_after),
+      rw r.pairs_after (wider _ _ _ (omega arith) (person_within _ a.code a.w (folded l.pairs) c.in-Some.person.now l.invariant.2)),
       r.upper_bound.1,
       omega arith,
+      h.0 ∙ l.invariant.5,
     )
 
-pub returns : goal.returns
-unfolding spec.people spec.called spec.without
-returns c =
-    let l = c.loop-left in
-    let z : l.left ≡ 0 = omega arith in record {
-      value = sym (rw (l.invariant.0, z, add-zero));
-      pairs_after = sym (rw (l.invariant.1, z, raised_none));
-      upper_bound = (omega arith, l.invariant.4, wider _ _ (folded l.pairs) (omega arith) l.invariant.3);
-    }
+pub returns-clause-value : goal.returns-clause-value
+returns-clause-value c =
+    let rest = chunks_exact_rest c.loop-person.person-iterator in
+    let h : length rest < c.args.len * c.args.w = let h = c.in-None.ensures.steps.1 in omega arith in
+    sym (rw (c.loop-person.invariant.0, (people_end c.args.code c.args.w c.args.len rest (folded c.loop-person.pairs) h).0) (add-zero _))
+
+pub returns-clause-pairs_after : goal.returns-clause-pairs_after
+returns-clause-pairs_after c =
+    let rest = chunks_exact_rest c.loop-person.person-iterator in
+    let h : length rest < c.args.len * c.args.w = let h = c.in-None.ensures.steps.1 in omega arith in
+    sym (c.loop-person.invariant.1 ∙ (people_end c.args.code c.args.w c.args.len rest (folded c.loop-person.pairs) h).1)

@@ -1,21 +1,21 @@
 -- `calls::count_person` meets its contract. The loop's invariant: what is left of the person, counted on from the counters as they are, is what
--- all of the person is from those at entry; what is left has room; and no pair of counters is above the place.
+-- all of the person is from those at entry; and no pair of counters is so high that a slot for each byte left could wrap it.
 use mathlib.Core.Path.{◌≡◌}
-use Prim.Native.Nat.{◌+◌, ◌*◌, ◌≤◌}
-use lib.ListN.{drop, length}
-use Rattle.vectors.specs.Vectors.{numbers}
+use Prim.Native.Nat.{◌*◌, ◌-◌, ◌^◌, ◌≤◌}
+use lib.ListN.{length}
+use Rattle.std.specs.Iterator.Adapters.{enumerate_source}
+use Rattle.std.specs.Slice.Iter.{chunks_exact_rest, chunks_exact_size}
 use Rattle.calls.specs.Calls.{slots, alleles, no_slot, AtMost}
-use Rattle.calls.specs.Engine.{raised, folded}
+use Rattle.calls.specs.Engine.{every, raised, folded}
 use Rattle.calls.proofs.count_person.Given as goal
 
-abbrev pub invariant-loop-left : goal.invariant-loop-left
-invariant-loop-left l =
-    (no_slot (slots l.code (numbers l.w l.len (drop l.from l.part))) ≡ l.none * no_slot (slots l.code (numbers l.w l.left (drop l.at l.part))))
-    × (raised 0 (folded l.initial.pairs) (alleles l.code (numbers l.w l.len (drop l.from l.part))) ≡ raised 0 (folded l.pairs) (alleles l.code (numbers l.w l.left (drop l.at l.part))))
-    × (l.at + l.left * l.w ≤ l.from + l.len * l.w)
-    × AtMost l.at (folded l.pairs)
+abbrev pub invariant-loop-i : goal.invariant-loop-i
+invariant-loop-i l =
+    let rest = chunks_exact_rest (enumerate_source l.i-iterator) in
+    (no_slot (slots l.code (every l.w l.person)) ≡ l.none * no_slot (slots l.code (every l.w rest)))
+    × (raised 0 (folded l.initial.pairs) (alleles l.code (every l.w l.person)) ≡ raised 0 (folded l.pairs) (alleles l.code (every l.w rest)))
+    × AtMost (2 ^ 64 - 1 - length rest) (folded l.pairs)
     × (length l.pairs ≡ 130)
+    × (chunks_exact_size (enumerate_source l.i-iterator) ≡ l.w)
+    × (length rest ≤ length l.person)
     × (l.none ≤ 1)
-
-abbrev pub decreases-loop-left : goal.decreases-loop-left
-decreases-loop-left l = l.left

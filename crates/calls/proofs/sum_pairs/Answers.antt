@@ -1,5 +1,5 @@
--- `calls::sum_pairs` meets its contract. The loop's invariant: the counters before the place are the sums.
-use mathlib.Core.Path.{refl, sym, ◌∙◌}
+-- `calls::sum_pairs` meets its contract.
+use mathlib.Core.Path.{sym, ◌∙◌}
 use native.Mathlib.Omega.{arith}
 use borrow.Author.Count.{below_more}
 use lib.ListN.{length-set}
@@ -8,25 +8,19 @@ use Rattle.calls.specs.Engine.{folded}
 use Rattle.calls.proofs.Pairs.{folded_at, folded_65}
 use Rattle.calls.proofs.sum_pairs.Goals as goal
 
-pub loop-i-init : goal.loop-i-init
-loop-i-init c = (omega arith, refl, λ j h. absurd (omega arith))
-
 pub overflow_add-counts-in-loop-i : goal.overflow_add-counts-in-loop-i
 overflow_add-counts-in-loop-i c = let b = c.requires.1 c.loop-i.i in omega (arith, folded_at c.args.pairs.now c.loop-i.i)
 
 pub loop-i-preserved : goal.loop-i-preserved
 loop-i-preserved c =
-    let l = c.loop-i in
-    let h = c.loop-i-test.true in
-    let p = c.args.pairs.now in (
-      omega arith,
-      simp length-set l.invariant.1,
-      below_more _ _ (λ j g. get_or-set_other l.counts l.i j _ 0 (λ e. omega arith) ∙ l.invariant.2 j g)
-          (get_or-set_same l.counts l.i _ 0 (omega arith) ∙ sym (folded_at p l.i)),
+    let l = c.loop-i in (
+      simp length-set l.invariant.0,
+      below_more _ _ (λ j g. get_or-set_other l.counts l.i j _ 0 (λ e. omega arith) ∙ l.invariant.1 j g)
+          (get_or-set_same l.counts l.i _ 0 (omega arith) ∙ sym (folded_at c.args.pairs.now l.i)),
     )
 
 pub returns : goal.returns
 returns c =
     let l = c.loop-i in
     let n = folded_65 c.args.pairs.now c.requires.0 in
-    ext_get_or 0 l.counts (folded c.args.pairs.now) (l.invariant.1 ∙ sym n) (λ j g. l.invariant.2 j (omega arith))
+    ext_get_or 0 l.counts (folded c.args.pairs.now) (l.invariant.0 ∙ sym n) (λ j g. l.invariant.1 j (omega arith))

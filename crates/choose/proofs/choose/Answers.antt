@@ -1,5 +1,5 @@
 -- `choose::choose` meets its contract.
-use mathlib.Core.Path.{◌≡◌, ◌∙◌, sym}
+use mathlib.Core.Path.{◌≡◌, ◌∙◌, refl, sym}
 use Prim.Native.Nat.{◌<◌, ◌≤◌}
 use native.Mathlib.Omega.{arith}
 use lib.ListN.{length}
@@ -11,22 +11,16 @@ use Rattle.choose.proofs.People.{people_bound}
 use Rattle.choose.proofs.Written.{length_chosen_record, kept_block}
 use Rattle.choose.proofs.choose.Goals as goal
 
-pub returns-in_default : goal.returns-in_default
-unfolding choosing after_choosing
-returns-in_default c =
-    let h = sym c.read-r.ensures.value ∙ c.in_default.is in
-    record { told = rw (c.reading_refusal.ensures, c.in_default.is, h); inside = tt; written = rw h }
-
 pub slice_bounds-kept_size-end : goal.slice_bounds-kept_size-end
 slice_bounds-kept_size-end c =
-    let i = rw c.in-Accepted.is at c.read-r.ensures.reading_inside in
+    let i = c.in_ok-site.ensures.reading_inside in
     sym (length-take-le _ _ (omega (arith, i)))
 
 pub overflow_add-border : goal.overflow_add-border
 overflow_add-border c =
     let a = c.args in
-    let site = c.in-Accepted.site in
-    let i = rw c.in-Accepted.is at c.read-r.ensures.reading_inside in
+    let site = c.in_ok-site.field-0.site in
+    let i = c.in_ok-site.ensures.reading_inside in
     let small = rw (length-take-le site.length a.s.now (omega (arith, i))) at c.kept_size-size.ensures.upper_bound in
     omega (arith, i, small)
 
@@ -34,9 +28,9 @@ pub returns-then-buf-border : goal.returns-then-buf-border
 unfolding choosing after_choosing
 returns-then-buf-border c =
     let a = c.args in
-    let site = c.in-Accepted.site in
-    let h = sym c.read-r.ensures.value ∙ c.in-Accepted.is in
-    let i = rw c.in-Accepted.is at c.read-r.ensures.reading_inside in
+    let site = c.in_ok-site.field-0.site in
+    let h = sym c.read.ensures.value ∙ c.in_ok-site.was in
+    let i = c.in_ok-site.ensures.reading_inside in
     let asc = sym c.is_ascending.ensures ∙ c.if-is_ascending.true in
     let block = chosen_block site a.choice.now a.s.now in
     let known = kept_block site a.choice.now a.s.now asc in
@@ -48,22 +42,22 @@ returns-then-buf-border c =
 pub put_record-requires : goal.put_record-requires
 put_record-requires c =
     let a = c.args in
-    let site = c.in-Accepted.site in
-    let h = sym c.read-r.ensures.value ∙ c.in-Accepted.is in
-    let i = rw c.in-Accepted.is at c.read-r.ensures.reading_inside in
+    let site = c.in_ok-site.field-0.site in
+    let h = sym c.read.ensures.value ∙ c.in_ok-site.was in
+    let i = c.in_ok-site.ensures.reading_inside in
     let asc = sym c.is_ascending.ensures ∙ c.if-is_ascending.true in
     let block = chosen_block site a.choice.now a.s.now in
     let known = kept_block site a.choice.now a.s.now asc in
     let size : c.kept_size-size.result ≡ length block = c.kept_size-size.ensures.value ∙ rw c.kept_formats-count.ensures known in
     let small = rw (length-take-le site.length a.s.now (omega (arith, i))) at c.kept_size-size.ensures.upper_bound in
-    let bound = people_bound a.facts a.s.now site c.in-Accepted.gt h in
-    (asc, bound, omega (arith, i), omega (arith, i), omega (arith, i), omega (arith, i, small), size, omega (arith, i))
+    let bound = people_bound a.facts a.s.now site c.in_ok-site.field-0.gt h in
+    (refl, bound, omega (arith, i), omega (arith, i), omega (arith, i), omega (arith, i, small), size, omega (arith, i))
 
 pub overflow_add-result : goal.overflow_add-result
 overflow_add-result c =
     let a = c.args in
-    let site = c.in-Accepted.site in
-    let i = rw c.in-Accepted.is at c.read-r.ensures.reading_inside in
+    let site = c.in_ok-site.field-0.site in
+    let i = c.in_ok-site.ensures.reading_inside in
     let small = rw (length-take-le site.length a.s.now (omega (arith, i))) at c.kept_size-size.ensures.upper_bound in
     omega (arith, i, small)
 
@@ -71,9 +65,9 @@ pub returns-then-is_ascending : goal.returns-then-is_ascending
 unfolding choosing after_choosing
 returns-then-is_ascending c =
     let a = c.args in
-    let site = c.in-Accepted.site in
-    let h = sym c.read-r.ensures.value ∙ c.in-Accepted.is in
-    let i = rw c.in-Accepted.is at c.read-r.ensures.reading_inside in
+    let site = c.in_ok-site.field-0.site in
+    let h = sym c.read.ensures.value ∙ c.in_ok-site.was in
+    let i = c.in_ok-site.ensures.reading_inside in
     let asc = sym c.is_ascending.ensures ∙ c.if-is_ascending.true in
     let block = chosen_block site a.choice.now a.s.now in
     let known = kept_block site a.choice.now a.s.now asc in
@@ -90,6 +84,6 @@ returns-then-is_ascending c =
 pub returns : goal.returns
 unfolding choosing after_choosing
 returns c =
-    let h = sym c.read-r.ensures.value ∙ c.in-Accepted.is in
+    let h = sym c.read.ensures.value ∙ c.in_ok-site.was in
     let asc = sym c.is_ascending.ensures ∙ c.if-is_ascending.false in
     record { told = rw (h, asc); inside = tt; written = rw (h, asc) }

@@ -1,5 +1,6 @@
 -- `cuts::choice_step` meets its contract.
-use mathlib.Core.Path.{sym, ◌∙◌}
+use mathlib.Core.Path.{sym, ap, ◌∙◌}
+use Rattle.std.specs.Prelude.{Err}
 use lib.ListN.{length}
 use Rattle.hexadecimal.specs.Hexadecimal.{choice_of}
 use Rattle.cuts.proofs.Choices.{people_told, people_most, choice_bad, choice_room}
@@ -8,28 +9,28 @@ use Rattle.cuts.proofs.choice_step.Goals as goal
 pub release_step-requires : goal.release_step-requires
 release_step-requires c =
     let a = c.args in
-    (people_most (length a.choice.now) a.line.now _ (sym c.read_choice-c.ensures.told ∙ c.in-People.is), c.requires.1)
+    (people_most (length a.choice.now) a.line.now _ (sym c.read_choice.ensures.told ∙ c.in-Ok.is), c.requires.1)
 
-pub returns-in-People : goal.returns-in-People
-returns-in-People c =
+pub returns-in-Ok : goal.returns-in-Ok
+returns-in-Ok c =
     let a = c.args in
-    let e = people_told (length a.choice.now) (choice_of a.line.now) a.facts _ (sym c.read_choice-c.ensures.told ∙ c.in-People.is) in
+    let e = people_told (length a.choice.now) (choice_of a.line.now) a.facts _ (sym c.read_choice.ensures.told ∙ c.in-Ok.is) in
     let p = c.release_step.ensures in
     record {
       value = rw (e.0, e.1) p.value;
       step_inside = p.step_inside;
       out_after = rw e.1 p.out_after;
-      choice_after = c.read_choice-c.ensures.written;
+      choice_after = c.read_choice.ensures.written;
     }
 
-pub returns-in-Bad : goal.returns-in-Bad
-returns-in-Bad c =
+pub returns-in-Err-Bad : goal.returns-in-Err-Bad
+returns-in-Err-Bad c =
     let a = c.args in
-    let e = choice_bad (length a.choice.now) (choice_of a.line.now) (sym c.read_choice-c.ensures.told ∙ c.in-Bad.is) in
+    let e = choice_bad (length a.choice.now) (choice_of a.line.now) (sym c.read_choice.ensures.told ∙ c.in-Err-Bad.is ∙ ap Err c.in-Err-Bad.field-0-is) in
     let p = c.bad_step.ensures in
-    record { value = rw e p.value; step_inside = p.step_inside; out_after = rw e p.out_after; choice_after = c.read_choice-c.ensures.written }
+    record { value = rw e p.value; step_inside = p.step_inside; out_after = rw e p.out_after; choice_after = c.read_choice.ensures.written }
 
-pub returns-in-NoRoom : goal.returns-in-NoRoom
-returns-in-NoRoom c =
+pub returns-in-Err-NoRoom : goal.returns-in-Err-NoRoom
+returns-in-Err-NoRoom c =
     let a = c.args in
-    absurd (choice_room (length a.choice.now) a.line.now c.requires.0 (sym c.read_choice-c.ensures.told ∙ c.in-NoRoom.is))
+    absurd (choice_room (length a.choice.now) a.line.now c.requires.0 (sym c.read_choice.ensures.told ∙ c.in-Err-NoRoom.is ∙ ap Err c.in-Err-NoRoom.field-0-is))

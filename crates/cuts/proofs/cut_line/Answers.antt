@@ -6,7 +6,9 @@ use Prim.Native.Nat.{ℕ, ◌≤◌}
 use native.Mathlib.Omega.{arith}
 use lib.ListN.{length, take}
 use lib.Seq.{length-take-le}
-use Rattle.hexadecimal.specs.Hexadecimal.{frame_of}
+use Rattle.hexadecimal.specs.Hexadecimal.{frame_of, answered}
+use Rattle.hexadecimal.specs.declared.LineError.TheVariants.{Bad, NoRoom}
+use Rattle.std.specs.Prelude.{Err}
 use Rattle.hexadecimal.proofs.Frames.{told}
 use Rattle.frames.proofs.Answers.{frame_bad}
 use Rattle.cuts.specs.Cuts.{cut, cut_out, cut_from, cut_kept}
@@ -17,38 +19,38 @@ use Rattle.cuts.proofs.cut_line.Goals as goal
 
 pub slice_bounds-say_record-end : goal.slice_bounds-say_record-end
 slice_bounds-say_record-end c =
-    let i = rw c.in-Bytes.is at c.decode-f.ensures.inside in
-    let q : c.in-Bytes.n ≤ length c.decode-f.new.buf = omega (arith, i, c.decode-f.auto.buf) in
+    let i = rw c.in-Ok.is at c.decode.ensures.inside in
+    let q : c.in-Ok.n ≤ length c.decode.new.buf = omega (arith, i, c.decode.auto.buf) in
     q
 
-pub slice_bounds-say_record-end-in-Bytes : goal.slice_bounds-say_record-end-in-Bytes
-slice_bounds-say_record-end-in-Bytes c =
-    let i = rw c.in-Bytes.is at c.decode-f.ensures.inside in
-    let q : c.in-Bytes.n ≤ length c.decode-f.new.buf = omega (arith, i, c.decode-f.auto.buf) in
+pub slice_bounds-say_record-end-in-Ok : goal.slice_bounds-say_record-end-in-Ok
+slice_bounds-say_record-end-in-Ok c =
+    let i = rw c.in-Ok.is at c.decode.ensures.inside in
+    let q : c.in-Ok.n ≤ length c.decode.new.buf = omega (arith, i, c.decode.auto.buf) in
     sym (length-take-le _ _ q)
 
 pub say_record-requires : goal.say_record-requires
 say_record-requires c =
     let a = c.args in
-    let room = sym c.is_roomy.ensures ∙ c.if-is_roomy.true in
+    let room = sym c.is_roomy.ensures ∙ c.if-not-is_roomy.false in
     let rs = rooms a.frame.now a.chosen.now a.out.now room in
-    let n = c.in-Bytes.n in
-    let k = sym (rw c.in-Bytes.is at c.decode-f.ensures.told) in
-    let w = c.decode-f.ensures.written in
-    let bs = take n c.decode-f.new.buf in
+    let n = c.in-Ok.n in
+    let k = sym (rw c.in-Ok.is at c.decode.ensures.told) in
+    let w = c.decode.ensures.written in
+    let bs = take n c.decode.new.buf in
     let known : frame_of a.line.now ≡ some bs = told a.frame.now (frame_of a.line.now) n k ∙ ap (λ (b : List ℕ). some (take n b)) (sym w) in
     (frame_most a.line.now bs known, rs.1, rs.2)
 
-pub returns-in-Bytes : goal.returns-in-Bytes
+pub returns-in-Ok : goal.returns-in-Ok
 unfolding cut cut_out cut_from cut_kept
-returns-in-Bytes c =
+returns-in-Ok c =
     let a = c.args in
-    let room = sym c.is_roomy.ensures ∙ c.if-is_roomy.true in
+    let room = sym c.is_roomy.ensures ∙ c.if-not-is_roomy.false in
     let rs = rooms a.frame.now a.chosen.now a.out.now room in
-    let n = c.in-Bytes.n in
-    let k = sym (rw c.in-Bytes.is at c.decode-f.ensures.told) in
-    let w = c.decode-f.ensures.written in
-    let bs = take n c.decode-f.new.buf in
+    let n = c.in-Ok.n in
+    let k = sym (rw c.in-Ok.is at c.decode.ensures.told) in
+    let w = c.decode.ensures.written in
+    let bs = take n c.decode.new.buf in
     let known : frame_of a.line.now ≡ some bs = told a.frame.now (frame_of a.line.now) n k ∙ ap (λ (b : List ℕ). some (take n b)) (sym w) in
     let e = cut_bytes a.facts a.choice.now a.line.now bs known in
     let p = c.say_record.ensures in record {
@@ -59,33 +61,33 @@ returns-in-Bytes c =
       kept = rw (room, known) p.chosen_after;
     }
 
-pub returns-in-Bad : goal.returns-in-Bad
+pub returns-in-Err-Bad : goal.returns-in-Err-Bad
 unfolding cut cut_out cut_from cut_kept
-returns-in-Bad c =
+returns-in-Err-Bad c =
     let a = c.args in
-    let room = sym c.is_roomy.ensures ∙ c.if-is_roomy.true in
+    let room = sym c.is_roomy.ensures ∙ c.if-not-is_roomy.false in
     let rs = rooms a.frame.now a.chosen.now a.out.now room in
-    let k = sym (rw c.in-Bad.is at c.decode-f.ensures.told) in
+    let k : answered (length a.frame.now) (frame_of a.line.now) ≡ Err Bad = sym c.decode.ensures.told ∙ c.in-Err-Bad.is ∙ ap Err c.in-Err-Bad.field-0-is in
     let none = frame_bad _ (frame_of a.line.now) k in
     let e = cut_bad a.facts a.choice.now a.line.now none in
     let p = c.say_bad.ensures in record {
       told = rw room (p.told ∙ said_as a.out.now _ _ rs.2 e);
       inside = p.inside;
       written = rw room (p.written ∙ said_in_as a.out.now _ _ rs.2 e);
-      decoded = rw room c.decode-f.ensures.written;
+      decoded = rw room c.decode.ensures.written;
       kept = rw (room, none);
     }
 
-pub returns-in-NoRoom : goal.returns-in-NoRoom
-returns-in-NoRoom c =
+pub returns-in-Err-NoRoom : goal.returns-in-Err-NoRoom
+returns-in-Err-NoRoom c =
     let a = c.args in
-    let room = sym c.is_roomy.ensures ∙ c.if-is_roomy.true in
+    let room = sym c.is_roomy.ensures ∙ c.if-not-is_roomy.false in
     let rs = rooms a.frame.now a.chosen.now a.out.now room in
-    let k = sym (rw c.in-NoRoom.is at c.decode-f.ensures.told) in
+    let k : answered (length a.frame.now) (frame_of a.line.now) ≡ Err NoRoom = sym c.decode.ensures.told ∙ c.in-Err-NoRoom.is ∙ ap Err c.in-Err-NoRoom.field-0-is in
     absurd (frame_room_lem _ a.line.now rs.0 k)
 
-pub returns : goal.returns
+pub returns-then-not-is_roomy : goal.returns-then-not-is_roomy
 unfolding cut cut_out cut_from cut_kept
-returns c =
-    let room = sym c.is_roomy.ensures ∙ c.if-is_roomy.false in
+returns-then-not-is_roomy c =
+    let room = sym c.is_roomy.ensures ∙ c.if-not-is_roomy.true in
     record { told = rw room; inside = tt; written = rw room; decoded = rw room; kept = rw room }

@@ -1,17 +1,9 @@
 -- `cuts::release_line` meets its contract.
-use mathlib.Core.Path.{ap, sym}
-use native.Mathlib.Omega.{arith}
-use borrow.Author.Tests.{lt-ltb, le-ltb}
-use Rattle.frames.specs.declared.Answer.TheVariants.{Text}
+use Rattle.std.proofs.Common.{Some, ap, sym, arith}
+use borrow.Author.Tests.{le-ltb}
 use Rattle.cuts.specs.Release.{release_said, release_said_in}
 use Rattle.cuts.proofs.Releases.{length_release, release_stored}
 use Rattle.cuts.proofs.release_line.Goals as goal
-
-pub returns-then-out-lt33 : goal.returns-then-out-lt33
-unfolding release_said release_said_in
-returns-then-out-lt33 c =
-    let h = lt-ltb _ _ c.if-out-lt33.true in
-    record { told = rw h; inside = tt; written = rw h }
 
 pub returns : goal.returns
 unfolding release_said release_said_in
@@ -19,7 +11,7 @@ returns c =
     let a = c.args in
     let h = le-ltb _ _ c.if-out-lt33.false in
     let e = release_stored a.out.now a.facts a.people c.if-out-lt33.false in record {
-      told = rw h (ap Text (sym (length_release a.facts a.people)));
+      told = rw h (ap Some (sym (length_release a.facts a.people)));
       inside = omega arith;
       written = rw (h, c.put_eight-4.ensures.written, c.put_eight-3.ensures.written, c.put_eight-2.ensures.written, c.put_eight.ensures.written) e;
     }

@@ -8,9 +8,6 @@ use Rattle.elements.specs.Elements.{element_at}
 use Rattle.elements.proofs.Elements.{element_inside}
 use Rattle.elements.proofs.element_at.Goals as goal
 
-pub returns-then-code-eq7 : goal.returns-then-code-eq7
-returns-then-code-eq7 c = rw c.if-code-eq7.true c.text_at.ensures
-
 pub returns-then-over-index : goal.returns-then-over-index
 unfolding element_at
 returns-then-over-index c =

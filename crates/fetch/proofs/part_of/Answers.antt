@@ -1,5 +1,4 @@
 -- `fetch::part_of` meets its contract.
-use Rattle.fetch.specs.Fetch.{field_of}
 use Rattle.fetch.proofs.part_of.Goals as goal
 
 pub returns : goal.returns

@@ -3,9 +3,10 @@ use mathlib.Core.Path.{sym, ap}
 use native.Mathlib.Omega.{arith}
 use lib.Seq.{length-take-le}
 use borrow.Author.Tests.{lt-ltb, le-ltb}
-use Rattle.hexadecimal.specs.Hexadecimal.{frame_of}
+use Rattle.hexadecimal.specs.Hexadecimal.{frame_of, answered}
+use Rattle.hexadecimal.specs.declared.LineError.TheVariants.{Bad, NoRoom}
 use Rattle.frames.specs.Frames.{line_said, line_said_in, decoded}
-use Rattle.frames.specs.declared.Answer.TheVariants.{Text}
+use Rattle.std.proofs.Common.{◌≡◌, ◌∙◌, Some, Err, length}
 use Rattle.frames.proofs.Answers.{frame_bad, frame_short, frame_fits, answer_bytes, answer_bad}
 use Rattle.frames.proofs.answer_line.Goals as goal
 
@@ -17,53 +18,53 @@ returns-then-out-lt-TEXT_ROOM c =
 
 pub slice_bounds-put_record-end : goal.slice_bounds-put_record-end
 slice_bounds-put_record-end c =
-    let i = rw c.in-Bytes.is at c.decode-f.ensures.inside in
-    omega (arith, i, c.decode-f.auto.buf)
+    let i = rw c.in-Ok.is at c.decode.ensures.inside in
+    omega (arith, i, c.decode.auto.buf)
 
-pub slice_bounds-put_record-end-in-Bytes : goal.slice_bounds-put_record-end-in-Bytes
-slice_bounds-put_record-end-in-Bytes c =
-    let i = rw c.in-Bytes.is at c.decode-f.ensures.inside in
-    sym (length-take-le _ _ (omega (arith, i, c.decode-f.auto.buf)))
+pub slice_bounds-put_record-end-in-Ok : goal.slice_bounds-put_record-end-in-Ok
+slice_bounds-put_record-end-in-Ok c =
+    let i = rw c.in-Ok.is at c.decode.ensures.inside in
+    sym (length-take-le _ _ (omega (arith, i, c.decode.auto.buf)))
 
-pub returns-in-Bytes : goal.returns-in-Bytes
+pub returns-in-Ok : goal.returns-in-Ok
 unfolding line_said line_said_in decoded
-returns-in-Bytes c =
+returns-in-Ok c =
     let a = c.args in
     let h = le-ltb _ _ c.if-out-lt-TEXT_ROOM.false in
-    let n = c.in-Bytes.n in
-    let k = sym (rw c.in-Bytes.is at c.decode-f.ensures.told) in
-    let w = c.decode-f.ensures.written in
+    let n = c.in-Ok.n in
+    let k = sym (rw c.in-Ok.is at c.decode.ensures.told) in
+    let w = c.decode.ensures.written in
     let e = answer_bytes a.facts a.line.now a.frame.now _ n k w in
     let p = c.put_record.ensures in record {
-      told = rw (h, frame_fits _ n (frame_of a.line.now) _ _ k, e) (ap Text p.value);
+      told = rw (h, frame_fits _ n (frame_of a.line.now) _ _ k, e) (ap Some p.value);
       inside = omega (arith, p.upper_bound, c.if-out-lt-TEXT_ROOM.false);
       written = rw (h, frame_fits _ n (frame_of a.line.now) _ _ k, e) p.out_after;
       decoded = rw h w;
     }
 
-pub returns-in-Bad : goal.returns-in-Bad
+pub returns-in-Err-Bad : goal.returns-in-Err-Bad
 unfolding line_said line_said_in decoded
-returns-in-Bad c =
+returns-in-Err-Bad c =
     let a = c.args in
     let h = le-ltb _ _ c.if-out-lt-TEXT_ROOM.false in
-    let k = sym (rw c.in-Bad.is at c.decode-f.ensures.told) in
+    let k : answered (length a.frame.now) (frame_of a.line.now) ≡ Err Bad = sym c.decode.ensures.told ∙ c.in-Err-Bad.is ∙ ap Err c.in-Err-Bad.field-0-is in
     let z = frame_bad _ (frame_of a.line.now) k in
     let e = answer_bad a.facts a.line.now z in
     let p = c.put_bad.ensures in record {
-      told = rw (h, e, z) (ap Text p.0);
+      told = rw (h, e, z) (ap Some p.0);
       inside = omega (arith, p.0, c.if-out-lt-TEXT_ROOM.false);
       written = rw (h, e, z) p.1;
-      decoded = rw h c.decode-f.ensures.written;
+      decoded = rw h c.decode.ensures.written;
     }
 
-pub returns-in-NoRoom : goal.returns-in-NoRoom
+pub returns-in-Err-NoRoom : goal.returns-in-Err-NoRoom
 unfolding line_said line_said_in decoded
-returns-in-NoRoom c =
+returns-in-Err-NoRoom c =
     let a = c.args in
     let h = le-ltb _ _ c.if-out-lt-TEXT_ROOM.false in
-    let k = sym (rw c.in-NoRoom.is at c.decode-f.ensures.told) in record {
+    let k : answered (length a.frame.now) (frame_of a.line.now) ≡ Err NoRoom = sym c.decode.ensures.told ∙ c.in-Err-NoRoom.is ∙ ap Err c.in-Err-NoRoom.field-0-is in record {
       told = rw (h, frame_short _ (frame_of a.line.now) _ _ k);
       inside = tt;
       written = rw (h, frame_short _ (frame_of a.line.now) _ _ k);
-      decoded = rw h c.decode-f.ensures.written;
+      decoded = rw h c.decode.ensures.written;
     }

@@ -1,48 +1,31 @@
--- `frames::put_numbers` meets its contract. The loop's invariant: the numbers are stored as those that are left, which have room.
-use mathlib.Core.List.{[]}
-use mathlib.Core.Path.{◌≡◌, ◌∙◌, ap, sym}
-use Prim.Native.Nat.{suc, ◌+◌, ◌*◌, ◌≤◌}
-use lib.ListN.{drop, get_or, length, set, drop_of_length-le, length-append, length-set}
-use lib.Seq.{sets, length-sets}
+-- `frames::put_numbers` meets its contract.
+use Rattle.std.proofs.Common.{◌≡◌, ◌∙◌, ◌∷◌, Some, ◌+◌, ◌≤◌, length, get_or, set, take, length-append, length-set, arith}
+use Rattle.std.proofs.lemmas.List.Edits.{sets}
 use Rattle.decimal.specs.Decimal.{decimal}
-use Rattle.decimal.specs.declared.Put.TheVariants.{At}
 use Rattle.decimal.proofs.Decimal.{twenty}
-use native.Mathlib.Omega.{arith}
-use Rattle.frames.specs.Text.{spaced}
 use Rattle.stores.proofs.Room.{filled_room}
-use Rattle.frames.proofs.Texts.{placed_room, spaced_turn, spaced_stored}
+use Rattle.frames.specs.Text.{spaced}
+use Rattle.frames.proofs.Texts.{placed_room, spaced_more, number_stored}
 use Rattle.frames.proofs.put_numbers.Goals as goal
 
-pub loop-i-preserved : goal.loop-i-preserved
-loop-i-preserved c =
+pub loop-n-preserved : goal.loop-n-preserved
+loop-n-preserved c =
     let a = c.args in
-    let l = c.loop-i in
+    let l = c.loop-n in
     let ns = a.numbers.now in
+    let i = l.n-index in
+    let digits = decimal (get_or ns i 0) in
     let o = set l.out l.at 0x20 in
-    let n = get_or ns l.i 0 in
-    let h = c.loop-i-test.true in
-    let t : length (decimal n) ≤ 20 = twenty n (c.shared_slice_known-in-loop-i-1.given l.i).fits in
-    let g : length o ≡ length a.out.now = rw length-set l.invariant.3 in
-    let r : a.from + length ns * 21 ≤ length a.out.now = c.requires in
-    let q : l.at + 1 + length (decimal n) ≤ length o = omega (arith, l.invariant.2) in
-    let told : c.put_decimal-p.result ≡ At (l.at + 1 + length (decimal n)) = c.put_decimal-p.ensures.told ∙ placed_room (length o) (l.at + 1) (decimal n) q in
-    let x = c.place_after-at.result in
-    let v : x ≡ l.at + 1 + length (decimal n) = c.place_after-at.ensures ∙ rw told in
-    let w : c.put_decimal-p.new.buf ≡ sets o (l.at + 1) (decimal n) = c.put_decimal-p.ensures.written ∙ filled_room o (l.at + 1) (decimal n) q in
-    let s = ap length (spaced_turn ns l.i h) ∙ ap suc (length-append (decimal n) (spaced (drop (l.i + 1) ns))) in (
-      l.invariant.0 ∙ rw (w, v) (spaced_stored l.out ns l.at l.i h),
-      omega (arith, l.invariant.1, s),
-      omega (arith, l.invariant.2),
-      rw (w, length-sets) g,
-      omega (arith, h),
-    )
-
-pub returns : goal.returns
-unfolding spaced
-returns c =
-    let l = c.loop-i in
-    let a = c.args in
-    let e : drop l.i a.numbers.now ≡ [] = drop_of_length-le a.numbers.now c.loop-i-test.false in
-    let s = rw e at l.invariant.1 in
-    let z = rw e at l.invariant.0 in
-    record { value = omega (arith, s); upper_bound = omega (arith, l.invariant.2); out_after = sym z }
+    let g : length o ≡ length a.out.now = rw length-set l.auto.out in
+    let few : length digits ≤ 20 = twenty (get_or ns i 0) (c.type_inv.numbers i).fits in
+    let q : l.at + 1 + length digits ≤ length o = omega arith in
+    let told : c.put_decimal.result ≡ Some (l.at + 1 + length digits) = c.put_decimal.ensures.told ∙ placed_room (length o) (l.at + 1) digits q in
+    let v : c.unwrap_or-at.result ≡ l.at + 1 + length digits = rw told at c.unwrap_or-at.ensures in
+    let w : c.put_decimal.new.buf ≡ sets o (l.at + 1) digits = c.put_decimal.ensures.written ∙ filled_room o (l.at + 1) digits q in
+    let more = spaced_more ns i c.loop-n-test.true in
+    let long = length-append (spaced (take i ns)) (0x20 ∷ digits) in
+    record {
+      place = rw (v, more) (omega (arith, long));
+      room = omega arith;
+      stored = rw (w, more, l.invariant.stored, l.invariant.place) (number_stored a.out.now (spaced (take i ns)) digits a.from);
+    }

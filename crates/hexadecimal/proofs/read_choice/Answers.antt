@@ -1,41 +1,23 @@
--- `hexadecimal::read_choice` meets its contract: each answer is that of the line as it was found.
-use mathlib.Core.Path.{sym, ◌∙◌}
+-- `read_choice`: each answer is that of the line as it was counted. Rests on proofs/Choices and proofs/Frames.
 use native.Mathlib.Omega.{arith}
-use borrow.Author.Tests.{lt-ltb, le-ltb}
-use Rattle.hexadecimal.proofs.Choices.{choice_long, choice_part, choice_other, choice_good}
-use Rattle.hexadecimal.proofs.Digits.{length_eights}
+use lib.ListN.{length, take}
+use Rattle.std.proofs.Common.{rules, ◌≡◌, ◌∙◌, ◌/◌}
+use Rattle.std.proofs.lemmas.Grind.{common_steps}
+use Rattle.hexadecimal.proofs.Choices.{choice_counted, choice_says}
+use Rattle.hexadecimal.proofs.Frames.{kept, filled}
 use Rattle.hexadecimal.proofs.read_choice.Goals as goal
 
-pub returns-then-line-gt-MOST_CHOICE_DIGITS : goal.returns-then-line-gt-MOST_CHOICE_DIGITS
-returns-then-line-gt-MOST_CHOICE_DIGITS c =
-    let e = choice_long c.args.line.now c.if-line-gt-MOST_CHOICE_DIGITS.true in
-    record { told = rw e; inside = tt; written = rw e }
+pub returns-in_err-n-clause-told : goal.returns-in_err-n-clause-told
+returns-in_err-n-clause-told c = rw (← choice_counted) (search rules)
 
-pub returns-then-choice-n : goal.returns-then-choice-n
-returns-then-choice-n c =
-    let d = sym c.all_digits.ensures ∙ c.if-all_digits.true in
-    let e = choice_good _ c.if-line-gt-MOST_CHOICE_DIGITS.false c.if-line-eq0.true d in
-    let h = lt-ltb _ _ c.if-choice-n.true in
-    record { told = rw (e, length_eights, h); inside = tt; written = rw (e, length_eights, h) }
+pub returns-in_err-n-clause-written : goal.returns-in_err-n-clause-written
+returns-in_err-n-clause-written c = kept _ _ _ (c.in_err-n.ensures.value ∙ choice_counted _ _)
 
-pub store_people-requires : goal.store_people-requires
-store_people-requires c =
-    (c.table-table.ensures, omega arith, omega arith, sym c.all_digits.ensures ∙ c.if-all_digits.true)
+pub returns-clause-told : goal.returns-clause-told
+returns-clause-told c = rw (← choice_counted) (search rules)
 
-pub returns-then-all_digits : goal.returns-then-all_digits
-returns-then-all_digits c =
-    let d = sym c.all_digits.ensures ∙ c.if-all_digits.true in
-    let e = choice_good _ c.if-line-gt-MOST_CHOICE_DIGITS.false c.if-line-eq0.true d in
-    let room = c.if-choice-n.false in
-    let h = le-ltb _ _ room in
-    record { told = rw (e, length_eights, h); inside = room; written = rw (e, length_eights, h) c.store_people.ensures }
-
-pub returns-then-line-eq0 : goal.returns-then-line-eq0
-returns-then-line-eq0 c =
-    let e = choice_other _ c.if-line-gt-MOST_CHOICE_DIGITS.false c.if-line-eq0.true (sym c.all_digits.ensures ∙ c.if-all_digits.false) in
-    record { told = rw e; inside = tt; written = rw e }
-
-pub returns : goal.returns
-returns c =
-    let e = choice_part c.args.line.now c.if-line-gt-MOST_CHOICE_DIGITS.false c.if-line-eq0.false in
-    record { told = rw e; inside = tt; written = rw e }
+pub returns-clause-written : goal.returns-clause-written
+returns-clause-written c =
+    let l = c.args.line.now in
+    let n : length (take c.in_ok-n.n c.args.choice.now) ≡ length l / 8 = grind (arith, common_steps) in
+    rw (c.store_people.ensures, n) (filled _ _ _ _ (c.in_ok-n.ensures.value ∙ choice_counted _ _) (choice_says l))

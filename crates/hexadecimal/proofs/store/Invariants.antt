@@ -1,14 +1,10 @@
--- `store`: what is left of the line, stored from where the loop stands, makes the whole buffer. Rests on proofs/Digits.
+-- `store`: the bytes so far, and those of what is left of the line behind them. Rests on proofs/Digits.
 use mathlib.Core.Path.{◌≡◌}
-use Prim.Native.Nat.{◌-◌, ◌*◌, ◌≤◌}
-use lib.ListN.{length, drop}
-use lib.Seq.{sets}
+use mathlib.Core.List.{◌++◌}
+use Prim.Native.Nat.{◌*◌}
+use lib.ListN.{take, drop}
 use Rattle.hexadecimal.specs.Hexadecimal.{line_bytes}
 use Rattle.hexadecimal.proofs.store.Given as goal
 
 abbrev pub invariant-loop-i : goal.invariant-loop-i
-invariant-loop-i l =
-    (sets l.initial.buf 0 (line_bytes l.line) ≡ sets l.buf l.o (line_bytes (drop l.i l.line))) × (l.i ≡ l.o * 2) × (l.i ≤ length l.line) × (length l.buf ≡ length l.initial.buf)
-
-abbrev pub decreases-loop-i : goal.decreases-loop-i
-decreases-loop-i l = length l.line - l.i
+invariant-loop-i l = line_bytes l.line ≡ take l.i l.part ++ line_bytes (drop (2 * l.i) l.line)

@@ -1,18 +1,10 @@
--- `hexadecimal::store_people` meets its contract. The loop's invariant: all people stored are the people that are left stored from here on.
+-- `store_people`: the people so far, and those of what is left of the line behind them. Rests on proofs/Digits.
 use mathlib.Core.Path.{◌≡◌}
-use Prim.Native.Nat.{◌+◌, ◌*◌}
-use lib.ListN.{length, drop}
-use lib.Seq.{sets}
+use mathlib.Core.List.{◌++◌}
+use Prim.Native.Nat.{◌*◌, ◌-◌}
+use lib.ListN.{length, take, drop}
 use Rattle.hexadecimal.specs.Hexadecimal.{eights}
 use Rattle.hexadecimal.proofs.store_people.Given as goal
 
-abbrev pub invariant-loop-left : goal.invariant-loop-left
-invariant-loop-left l =
-    (sets l.initial.choice 0 (eights l.n l.line) ≡ sets l.choice l.o (eights l.left (drop l.at l.line)))
-    × (l.at + l.left * 8 ≡ length l.line)
-    × (l.o + l.left ≡ l.n)
-    × (length l.choice ≡ length l.initial.choice)
-
-abbrev pub decreases-loop-left : goal.decreases-loop-left
-decreases-loop-left l =
-    l.left
+abbrev pub invariant-loop-i : goal.invariant-loop-i
+invariant-loop-i l = eights (length l.initial.part) l.line ≡ take l.i l.part ++ eights (length l.initial.part - l.i) (drop (8 * l.i) l.line)

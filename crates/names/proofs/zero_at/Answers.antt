@@ -1,26 +1,15 @@
--- `names::zero_at` meets its contract.
-use mathlib.Core.Path.{refl, sym, ◌∙◌}
-use native.Mathlib.Omega.{arith}
-use Rattle.names.proofs.Names.{search_on, search_found, search_end}
+-- `names::zero_at` meets its contract: the first zero byte found, or none, decides it. Rests on proofs/Names.
+use lib.ListN.{length}
+use Rattle.std.proofs.Common.{◌≡◌, ◌≢◌, ◌∙◌, sym, refl, rules, tests}
+use Rattle.std.proofs.lemmas.Iterator.{YieldsList-from_slice, IsFirst-from_position, index_from_first}
+use Rattle.names.specs.Names.{before_zero}
+use Rattle.names.proofs.Names.{zero_here, zero_later}
 use Rattle.names.proofs.zero_at.Goals as goal
 
-pub loop-i-init : goal.loop-i-init
-loop-i-init c = (refl, omega arith)
-
-pub returns-then-text-i-eq0 : goal.returns-then-text-i-eq0
-returns-then-text-i-eq0 c =
-    let l = c.loop-i in
-    record {
-      text_value = sym (l.invariant.0 ∙ search_found _ _ c.loop-i-test.true c.if-text-i-eq0.true);
-      upper_bound = l.invariant.1;
-    }
-
-pub loop-i-preserved : goal.loop-i-preserved
-loop-i-preserved c =
-    let l = c.loop-i in
-    (l.invariant.0 ∙ search_on _ _ c.loop-i-test.true c.if-text-i-eq0.false, omega arith)
-
 pub returns : goal.returns
+unfolding before_zero
 returns c =
-    let l = c.loop-i in
-    record { text_value = sym (l.invariant.0 ∙ search_end _ _ c.loop-i-test.false); upper_bound = l.invariant.1 }
+    let first =
+    IsFirst-from_position _ _ c.position.result (λ x. x ≡ 0) (λ x. x ≢ 0) c.position.ensures.ran (YieldsList-from_slice c.args.text.now cc)
+    (λ x q k. search (rules, tests)) (λ x q k. search (rules, tests)) in
+    c.unwrap_or.ensures ∙ sym (index_from_first (λ l. length (before_zero l)) (λ x. x ≡ 0) (λ x. x ≢ 0) refl zero_here zero_later c.args.text.now _ first)

@@ -23,21 +23,6 @@ returns-then-n-lt15 c = record {
   descriptor_inside = search rules;
 }
 
-pub returns-in_default : goal.returns-in_default
-unfolding described
-returns-in_default c = record {
-  value = rw (front (described _ _) _ _) (simp (
-    lt-leb _ _ c.if-block-at.false,
-    ← c.may_stand.ensures,
-    c.if-may_stand.true,
-    le-ltb _ _ c.if-n-lt15.false,
-    ← c.true_length-l.ensures.value,
-    c.in_default.is,
-    c.integer_refusal.ensures,
-  ));
-  descriptor_inside = search rules;
-}
-
 pub returns-then-may_stand : goal.returns-then-may_stand
 unfolding described
 returns-then-may_stand c = record {
@@ -46,10 +31,10 @@ returns-then-may_stand c = record {
     ← c.may_stand.ensures,
     c.if-may_stand.true,
     le-ltb _ _ c.if-n-lt15.false,
-    ← c.true_length-l.ensures.value,
-    c.in-One.is,
+    ← c.true_length.ensures.value,
+    c.in_ok-bits.was,
   ));
-  descriptor_inside = let i = rw c.in-One.is at c.true_length-l.ensures.integer_inside in (omega (arith, i), i.1);
+  descriptor_inside = let i = rw c.in_ok-bits.was at c.true_length.ensures.integer_inside in (omega (arith, i), i.1);
 }
 
 pub returns : goal.returns

@@ -6,20 +6,11 @@ use native.Mathlib.Omega.{arith}
 use borrow.Author.Tests.{leb-true}
 use Rattle.values.proofs.Present.{present_at}
 use Rattle.values.proofs.Room.{prod}
-use Rattle.values.specs.Values.{present}
-use borrow.Author.Rules.{rules}
 use Rattle.values.proofs.value_at.Goals as goal
-
-pub returns-in_default : goal.returns-in_default
-unfolding present
-returns-in_default c = record {
-  value = simp (← c.descriptor_at-d.ensures.value, c.in_default.is, c.descriptor_refusal.ensures);
-  value_inside = search rules;
-}
 
 pub overflow_mul-count : goal.overflow_mul-count
 overflow_mul-count c =
-    let q = prod {a = c.args.vectors} {b = c.in-Typed.len} (2 ^ 32) (2 ^ 32) (omega arith) (omega arith) (omega arith) in
+    let q = prod {a = c.args.vectors} {b = c.in_ok-code.field-0.len} (2 ^ 32) (2 ^ 32) (omega arith) (omega arith) (omega arith) in
     omega arith
 
 pub elements_fit-requires : goal.elements_fit-requires
@@ -29,26 +20,26 @@ pub overflow_mul-result : goal.overflow_mul-result
 overflow_mul-result c =
     let a = c.args in
     let w = c.row_of-row.result.width in
-    let h : c.in-Typed.first + a.vectors * c.in-Typed.len * w ≤ length a.block.now = leb-true _ _ (sym c.elements_fit.ensures ∙ c.if-elements_fit.true) in
+    let h : c.in_ok-code.field-0.first + a.vectors * c.in_ok-code.field-0.len * w ≤ length a.block.now = leb-true _ _ (sym c.elements_fit.ensures ∙ c.if-elements_fit.true) in
     omega arith
 
 pub overflow_add-result : goal.overflow_add-result
 overflow_add-result c =
     let a = c.args in
     let w = c.row_of-row.result.width in
-    let h : c.in-Typed.first + a.vectors * c.in-Typed.len * w ≤ length a.block.now = leb-true _ _ (sym c.elements_fit.ensures ∙ c.if-elements_fit.true) in
+    let h : c.in_ok-code.field-0.first + a.vectors * c.in_ok-code.field-0.len * w ≤ length a.block.now = leb-true _ _ (sym c.elements_fit.ensures ∙ c.if-elements_fit.true) in
     omega arith
 
 pub returns-then-elements_fit : goal.returns-then-elements_fit
 returns-then-elements_fit c =
     let a = c.args in
     let w = c.row_of-row.result.width in
-    let h : c.in-Typed.first + a.vectors * c.in-Typed.len * w ≤ length a.block.now = leb-true _ _ (sym c.elements_fit.ensures ∙ c.if-elements_fit.true) in
-    let i = rw c.in-Typed.is at c.descriptor_at-d.ensures.descriptor_inside in record {
+    let h : c.in_ok-code.field-0.first + a.vectors * c.in_ok-code.field-0.len * w ≤ length a.block.now = leb-true _ _ (sym c.elements_fit.ensures ∙ c.if-elements_fit.true) in
+    let i = rw c.in_ok-code.was at c.descriptor_at.ensures.descriptor_inside in record {
       value = simp (
         present_at a.vectors a.at a.role a.block.now (omega (arith, i)),
-        ← c.descriptor_at-d.ensures.value,
-        c.in-Typed.is,
+        ← c.descriptor_at.ensures.value,
+        c.in_ok-code.was,
         ← c.row_of-row.ensures.width_value.0,
         ← c.elements_fit.ensures,
         c.if-elements_fit.true,
@@ -60,11 +51,11 @@ pub returns : goal.returns
 returns c =
     let a = c.args in
     let w = c.row_of-row.result.width in
-    let i = rw c.in-Typed.is at c.descriptor_at-d.ensures.descriptor_inside in record {
+    let i = rw c.in_ok-code.was at c.descriptor_at.ensures.descriptor_inside in record {
       value = simp (
         present_at a.vectors a.at a.role a.block.now (omega (arith, i)),
-        ← c.descriptor_at-d.ensures.value,
-        c.in-Typed.is,
+        ← c.descriptor_at.ensures.value,
+        c.in_ok-code.was,
         ← c.row_of-row.ensures.width_value.0,
         ← c.elements_fit.ensures,
         c.if-elements_fit.false,

@@ -1,58 +1,43 @@
 -- `vcf_calls::put_calls` meets its contract.
-use mathlib.Core.Path.{◌≡◌, ◌∙◌}
-use Prim.Native.Nat.{◌*◌, ◌≤◌}
 use native.Mathlib.Omega.{arith}
+use mathlib.Core.Path.{◌∙◌}
+use Prim.Native.Nat.{◌*◌, ◌/◌, ◌<◌}
 use lib.ListN.{length}
-use Rattle.types.specs.Rows.{row_of, width_of}
-use Rattle.vcf_calls.specs.Engine.{columns_of}
-use Rattle.vcf_calls.proofs.People.{people_inside, counted_columns}
+use Rattle.std.specs.Slice.Iter.{chunks_exact_rest}
+use Rattle.types.specs.Rows.{width_of}
+use Rattle.pieces.proofs.Put.{none_put, put_some, put_all}
+use Rattle.vcf_calls.specs.Engine.{column_of, columns_of}
+use Rattle.vcf_calls.proofs.People.{columns_on, no_columns, part_columns, part_none}
 use Rattle.vcf_calls.proofs.put_calls.Goals as goal
 
-pub put_couples-requires : goal.put_couples-requires
-unfolding width_of row_of
-put_couples-requires c =
+pub returns-then-size-eq0 : goal.returns-then-size-eq0
+returns-then-size-eq0 c =
     let a = c.args in
-    let w : c.row_of-row.result.width ≡ 1 = rw c.if-code-eq1.true at c.row_of-row.ensures.width_value.0 in
-    let i = people_inside _ _ _ _ _ c.over-count.ensures.b_bound c.over.ensures.b_bound in
-    let j : c.over-count.result * (2 * 1) ≤ length a.part.now = rw (w, c.if-len-eq2.true) at i in
-    omega (arith, j)
+    let w = c.from-width.ensures ∙ c.row_of.ensures.width_value.0 in
+    let p = none_put a.buf.now a.to (omega arith) in
+    rw (part_none a.code a.len a.part.now (rw (← w) c.if-size-eq0.true)) (record { next = p.0; written = p.1 })
 
-pub returns-then-len-eq2 : goal.returns-then-len-eq2
-unfolding width_of row_of
-returns-then-len-eq2 c =
+pub loop-person-preserved : goal.loop-person-preserved
+loop-person-preserved c =
+    let l = c.loop-person in
     let a = c.args in
-    let row = c.row_of-row in
-    let n = c.over-count.result in
-    let w : row.result.width ≡ 1 = rw c.if-code-eq1.true at row.ensures.width_value.0 in
-    let e = counted_columns a.code a.len row.result.width c.over.result n a.part.now row.ensures.width_value.0 c.over.ensures.value c.over-count.ensures.value c.over-count.ensures.b_bound in
-    let f : columns_of a.code row.result.width a.len n a.part.now ≡ columns_of 1 1 2 n a.part.now = rw (w, c.if-code-eq1.true, c.if-len-eq2.true) in
-    rw (e ∙ f) (record {
-      next = c.put_couples.ensures.next;
-      written = c.put_couples.ensures.written;
-    })
-
-pub put_columns-requires : goal.put_columns-requires
-put_columns-requires c =
-    (c.row_of-row.ensures.width_value.0, c.row_of-row.ensures.width_value.1, people_inside _ _ _ _ _ c.over-count.ensures.b_bound c.over.ensures.b_bound)
-
-pub returns-then-code-eq1 : goal.returns-then-code-eq1
-returns-then-code-eq1 c =
-    let a = c.args in
-    let row = c.row_of-row in
-    rw (counted_columns a.code a.len row.result.width c.over.result c.over-count.result a.part.now row.ensures.width_value.0 c.over.ensures.value c.over-count.ensures.value c.over-count.ensures.b_bound) (record {
-      next = c.put_columns.ensures.next;
-      written = c.put_columns.ensures.written;
-    })
-
-pub put_columns-requires-2 : goal.put_columns-requires-2
-put_columns-requires-2 c =
-    (c.row_of-row.ensures.width_value.0, c.row_of-row.ensures.width_value.1, people_inside _ _ _ _ _ c.over-count.ensures.b_bound c.over.ensures.b_bound)
+    let size = a.len * c.from-width.result in
+    let h = c.in-Some.ensures.steps in
+    let e = columns_on a.code size _ _ _ (omega arith) h.1.0 (h.1.1 ∙ l.invariant.1) in
+    let rest = chunks_exact_rest c.next.new.self in (
+      put_some _ _ _ l.buf l.next (column_of a.code c.in-Some.person.now) (columns_of a.code size (length rest / size) rest) (omega arith) (rw e at l.invariant.0)
+          (c.put_any-next.ensures.next, c.put_any-next.ensures.written),
+      h.0 ∙ l.invariant.1,
+    )
 
 pub returns : goal.returns
 returns c =
+    let l = c.loop-person in
     let a = c.args in
-    let row = c.row_of-row in
-    rw (counted_columns a.code a.len row.result.width c.over.result c.over-count.result a.part.now row.ensures.width_value.0 c.over.ensures.value c.over-count.ensures.value c.over-count.ensures.b_bound) (record {
-      next = c.put_columns-2.ensures.next;
-      written = c.put_columns-2.ensures.written;
-    })
+    let w = c.from-width.ensures ∙ c.row_of.ensures.width_value.0 in
+    let size = a.len * c.from-width.result in
+    let rest = chunks_exact_rest l.person-iterator in
+    let h : length rest < size = let h = c.in-None.ensures.steps.1 in omega arith in
+    let q : 0 < a.len * width_of a.code = rw (← w) (omega arith) in
+    let p = put_all _ _ _ l.buf l.next (rw (no_columns a.code size rest h) at l.invariant.0) in
+    rw (part_columns a.code a.len a.part.now q, ← w) (record { next = p.0; written = p.1 })

@@ -15,10 +15,10 @@ unfolding line_text
 returns c =
     let a = c.args in
     let s = a.s.now in
-    let front = front_text (name_of a.contigs.now a.contig_ends.now) a.site s in
+    let front = front_text (name_of a.contigs.text.now a.contigs.ends.now) a.site s in
     let alleles = alleles_text a.site s in
     let qual : List ℕ = 0x09 ∷ qual_text a.site.qual in
-    let filters = filters_text (name_of a.strings.now a.string_ends.now) a.site s in
+    let filters = filters_text (name_of a.strings.text.now a.strings.ends.now) a.site s in
     let end = end_text a.site.people a.gt s in
     let h : length a.buf.now ≤ 18446744073709551615 = omega (arith, c.well_formed) in
     let t = all_to_put a.buf.now 0 (front ++ (alleles ++ (qual ++ (filters ++ end)))) (omega arith) in

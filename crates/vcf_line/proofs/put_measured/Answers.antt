@@ -15,7 +15,7 @@ pub returns-then-buf-size : goal.returns-then-buf-size
 unfolding filled
 returns-then-buf-size c =
     let a = c.args in
-    let text = line_text (name_of a.strings.now a.string_ends.now) (name_of a.contigs.now a.contig_ends.now) a.site a.gt a.s.now in
+    let text = line_text (name_of a.strings.text.now a.strings.ends.now) (name_of a.contigs.text.now a.contigs.ends.now) a.site a.gt a.s.now in
     let k : length a.buf.now < length text = no_room (length a.buf.now) (length text) (omega (arith, c.well_formed)) (rw c.put_line-size.ensures.next at c.if-buf-size.true) in
     record {
       told = rw (lt-ltb (length a.buf.now) (length text) k) c.refused.ensures;
@@ -26,7 +26,7 @@ pub returns : goal.returns
 unfolding filled
 returns c =
     let a = c.args in
-    let text = line_text (name_of a.strings.now a.string_ends.now) (name_of a.contigs.now a.contig_ends.now) a.site a.gt a.s.now in
+    let text = line_text (name_of a.strings.text.now a.strings.ends.now) (name_of a.contigs.text.now a.contigs.ends.now) a.site a.gt a.s.now in
     let e = c.put_line-size.ensures.next in
     let k = has_room (length a.buf.now) (length text) (omega (arith, c.well_formed)) (rw e at c.if-buf-size.false) in
     record {

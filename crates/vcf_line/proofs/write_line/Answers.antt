@@ -6,16 +6,10 @@ use Rattle.vcf_line.specs.Line.{printed, line_answer, after_line}
 use Rattle.vcf_line.proofs.Shown.{line_shown}
 use Rattle.vcf_line.proofs.write_line.Goals as goal
 
-pub returns-in_default : goal.returns-in_default
-unfolding line_answer after_line printed
-returns-in_default c =
-    let h = sym c.read-r.ensures.value ∙ c.in_default.is in
-    record { told = rw (c.reading_refusal.ensures, c.in_default.is, h); written = rw h }
-
 pub returns-then-string_ends-facts : goal.returns-then-string_ends-facts
 unfolding line_answer after_line printed
 returns-then-string_ends-facts c =
-    let h = sym c.read-r.ensures.value ∙ c.in-Accepted.is in
+    let h = sym c.read.ensures.value ∙ c.in_ok-site.was in
     let q = sym c.is_printable.ensures ∙ c.if-is_printable.true in
     record {
       told = rw (h, q, lt-ltb _ _ c.if-string_ends-facts.true) c.refused.ensures;
@@ -25,7 +19,7 @@ returns-then-string_ends-facts c =
 pub returns-then-contig_ends-facts : goal.returns-then-contig_ends-facts
 unfolding line_answer after_line printed
 returns-then-contig_ends-facts c =
-    let h = sym c.read-r.ensures.value ∙ c.in-Accepted.is in
+    let h = sym c.read.ensures.value ∙ c.in_ok-site.was in
     let q = sym c.is_printable.ensures ∙ c.if-is_printable.true in
     record {
       told = rw (h, q, le-ltb _ _ c.if-string_ends-facts.false, lt-ltb _ _ c.if-contig_ends-facts.true) c.refused-then-contig_ends-facts.ensures;
@@ -36,11 +30,11 @@ pub returns-then-is_printable : goal.returns-then-is_printable
 unfolding line_answer after_line printed
 returns-then-is_printable c =
     let a = c.args in
-    let h = sym c.read-r.ensures.value ∙ c.in-Accepted.is in
+    let h = sym c.read.ensures.value ∙ c.in_ok-site.was in
     let q = sym c.is_printable.ensures ∙ c.if-is_printable.true in
     let string = name_of a.strings.now a.string_ends.now in
     let contig = name_of a.contigs.now a.contig_ends.now in
-    let p = rw (line_shown a.facts a.s.now c.in-Accepted.site c.in-Accepted.gt string contig h) at c.put_measured.ensures in
+    let p = rw (line_shown a.facts a.s.now c.in_ok-site.field-0.site c.in_ok-site.field-0.gt string contig h) at c.put_measured.ensures in
     rw (h, q, le-ltb _ _ c.if-string_ends-facts.false, le-ltb _ _ c.if-contig_ends-facts.false) (record {
       told = p.told;
       written = p.written;
@@ -49,6 +43,6 @@ returns-then-is_printable c =
 pub returns : goal.returns
 unfolding line_answer after_line printed
 returns c =
-    let h = sym c.read-r.ensures.value ∙ c.in-Accepted.is in
+    let h = sym c.read.ensures.value ∙ c.in_ok-site.was in
     let q = sym c.is_printable.ensures ∙ c.if-is_printable.false in
     record { told = rw (h, q) c.refused-2.ensures; written = rw (h, q) }

@@ -11,15 +11,15 @@ returns-then-qual-eq-MISSING c =
     let e = text_missing _ c.if-qual-eq-MISSING.true in
     record { next = rw e p.ensures.next; written = rw e p.ensures.written }
 
-pub returns-in-Number : goal.returns-in-Number
-returns-in-Number c =
+pub returns-in-Some : goal.returns-in-Some
+returns-in-Some c =
     let p = c.put_number in
-    let w = sym c.whole_of.ensures ∙ c.in-Number.is in
+    let w = sym c.whole_of.ensures ∙ c.in-Some.is in
     let e = text_number _ _ c.if-qual-eq-MISSING.false w in
-    record { next = rw e p.ensures.next; written = rw e p.ensures.written }
+    record { next = rw (e, ← c.from.ensures) p.ensures.next; written = rw (e, ← c.from.ensures) p.ensures.written }
 
-pub returns-in-Other : goal.returns-in-Other
-returns-in-Other c =
-    let e = text_other _ c.if-qual-eq-MISSING.false (sym c.whole_of.ensures ∙ c.in-Other.is) in
+pub returns-in-None : goal.returns-in-None
+returns-in-None c =
+    let e = text_other _ c.if-qual-eq-MISSING.false (sym c.whole_of.ensures ∙ c.in-None.is) in
     let p = none_put c.args.buf.now c.args.at (omega arith) in
     record { next = rw e p.0; written = rw e p.1 }

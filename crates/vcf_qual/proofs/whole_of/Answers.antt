@@ -34,7 +34,7 @@ returns-then-significand-one-eq0 c =
       lt-leb _ _ c.if-bits-ge2147483648.false,
       le-ltb _ _ c.if-exponent-lt127.false,
       le-ltb _ _ c.if-exponent-gt150.false,
-      ← c.power-one.ensures.0,
+      ← c.pow-one.ensures,
       eq-eqb _ _ c.if-significand-one-eq0.true,
     )
 
@@ -46,6 +46,6 @@ returns c =
       lt-leb _ _ c.if-bits-ge2147483648.false,
       le-ltb _ _ c.if-exponent-lt127.false,
       le-ltb _ _ c.if-exponent-gt150.false,
-      ← c.power-one.ensures.0,
+      ← c.pow-one.ensures,
       ne_eqb _ _ c.if-significand-one-eq0.false,
     )

@@ -1,17 +1,18 @@
 -- `vcf_site::put_names` meets its contract.
+use mathlib.Core.Path.{◌≡◌}
 use mathlib.Core.List.{map}
-use Prim.Native.Nat.{◌+◌, ◌*◌, ◌≤◌}
-use lib.ListN.{length, drop}
-use Rattle.vectors.specs.Vectors.{shown_numbers}
+use lib.ListN.{length}
+use Rattle.std.specs.Slice.Iter.{chunks_exact_rest, chunks_exact_size}
+use Rattle.vectors.specs.Vectors.{elements_of}
 use Rattle.pieces.specs.Pieces.{followed}
 use Rattle.pieces.proofs.Put.{ToPut}
 use Rattle.names.specs.Names.{name_of}
 use Rattle.vcf_site.proofs.put_names.Given as goal
 
-abbrev pub invariant-loop-left : goal.invariant-loop-left
-invariant-loop-left l =
-    ToPut l.initial.buf l.to (followed 0x3B (map (name_of l.text l.ends) (shown_numbers l.code l.width l.count (drop l.from l.part)))) l.buf l.next
-    (followed 0x3B (map (name_of l.text l.ends) (shown_numbers l.code l.width l.left (drop l.at l.part)))) × (l.at + l.left * l.width ≤ length l.part)
-
-abbrev pub decreases-loop-left : goal.decreases-loop-left
-decreases-loop-left l = l.left
+abbrev pub invariant-loop-element : goal.invariant-loop-element
+invariant-loop-element l =
+    let string = name_of l.names.text.now l.names.ends.now in
+    let rest = chunks_exact_rest l.element-iterator in
+    ToPut l.initial.buf l.to (followed 0x3B (map string (elements_of l.code (length l.part) l.part))) l.buf l.next
+    (followed 0x3B (map string (elements_of l.code (length rest) rest)))
+    × (chunks_exact_size l.element-iterator ≡ l.width)

@@ -1,0 +1,12 @@
+-- `bcfcut::cut` meets its contract: a run of the cutting program.
+use Rattle.std.proofs.Common.{arith}
+use Rattle.std.proofs.Math.ListN.{replicate}
+use Rattle.std.proofs.lemmas.List.{length-replicate}
+use Rattle.bcfcut.proofs.Says.{ran_printed}
+use Rattle.bcfcut.proofs.cut.Goals as goal
+
+pub returns-then-written : goal.returns-then-written
+returns-then-written g c =
+    let a = c.args in
+    ran_printed (replicate 240001 0) (replicate 30000 0) c.run-written.result (g.R.Read.remaining a.input.now) (g.W.Write.contents a.output.now)
+    (g.W.Write.contents c.run-written.new.output) (rw length-replicate (omega arith)) (rw length-replicate (omega arith)) c.run-written.ensures

@@ -1,8 +1,0 @@
--- `record::reading_refusal` meets its contract.
-use Rattle.record.proofs.reading_refusal.Goals as goal
-
-pub returns-in-Accepted : goal.returns-in-Accepted
-returns-in-Accepted c = simp c.in-Accepted.is
-
-pub returns-in-Refused : goal.returns-in-Refused
-returns-in-Refused c = simp c.in-Refused.is
