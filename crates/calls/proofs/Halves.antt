@@ -236,12 +236,24 @@ block_within m t w len cs l p b =
     wider _ _ (raised 0 cs (called t (people w len n l))) (omega (arith, elements_fit n len w (length l) p h, called_most t w len n l))
     (raised_within m 0 cs (called t (people w len n l)) b)
 
--- people counted by the halves of their elements, where every one is counted: none is without a slot, and the first counters are raised
--- by what all of them are called
-pub few_block : (l cs fs : List ℕ) (len n : ℕ) → 0 < len → 4 ≤ length cs
+-- and none by more than the elements of people
+pub people_within : (m : ℕ) (l cs : List ℕ) (len n : ℕ) → AtMost m cs → AtMost (m + n * len) (raised 0 cs (called 1 (people 1 len n l)))
+people_within m l cs len n b =
+    wider _ _ (raised 0 cs (called 1 (people 1 len n l))) (omega (arith, called_most 1 1 len n l)) (raised_within m 0 cs (called 1 (people 1 len n l)) b)
+
+-- people counted by the halves of their elements, where every one is counted: none is without a slot, the first counters are raised
+-- by what all of them are called, and none by more than their elements
+pub few_raised : (l cs fs : List ℕ) (len n : ℕ) → 0 < len → 4 ≤ length cs
     → fs ≡ counters 4 0 (halves (numbers 1 (n * len) l)) → total fs ≡ n * len
     → (0 ≡ without 1 (people 1 len n l)) × (sums cs fs ≡ raised 0 cs (called 1 (people 1 len n l)))
-few_block l cs fs len n h g e q =
+few_raised l cs fs len n h g e q =
     let k = length_halves 1 (n * len) l in
     let a : AtMost 3 (halves (numbers 1 (n * len) l)) = all_counted 3 _ ((rw e at q) ∙ sym k) in
     (sym (few_without len n l h a), rw (e, few_called len n l a) (sums_raised 4 0 3 cs _ g (omega arith) a))
+
+pub few_block : (m : ℕ) (l cs fs : List ℕ) (len n : ℕ) → 0 < len → 4 ≤ length cs → AtMost m cs
+    → fs ≡ counters 4 0 (halves (numbers 1 (n * len) l)) → total fs ≡ n * len
+    → (0 ≡ without 1 (people 1 len n l)) × (sums cs fs ≡ raised 0 cs (called 1 (people 1 len n l))) × AtMost (m + n * len) (sums cs fs)
+few_block m l cs fs len n h g b e q =
+    let r = few_raised l cs fs len n h g e q in
+    (r.0, r.1, rw r.1 (people_within m l cs len n b))

@@ -22,7 +22,7 @@ use Rattle.calls.specs.Engine.{every, everyone, halves, firsts_few, raised}
 use Rattle.calls.specs.Totals.{total, sums}
 use Rattle.calls.proofs.Chunks.{every_bytes, everyone_cons, everyone_end, numbers_bytes}
 use Rattle.calls.proofs.Counters.{how_many_hit, how_many_miss}
-use Rattle.calls.proofs.Halves.{counters_past, few_block, few_plain, length_numbers, no_alleles, none_found, sums_raised}
+use Rattle.calls.proofs.Halves.{counters_past, few_plain, few_raised, length_numbers, no_alleles, none_found, people_within, sums_raised}
 use Rattle.calls.proofs.Laws.{counted_once, counters_append, none_counted}
 use Rattle.calls.proofs.Turns.{alleles_cons}
 
@@ -159,13 +159,13 @@ padded_block l cs fs n g e a f =
     let p = padded_counts n l a f in
     (sym p.2, rw (e, ← p.0) (sums_raised 4 0 3 cs _ g (omega arith) p.1))
 
--- a block of people of whom every element is told, and ends of vector are padding: none is without a slot, and the first counters are raised by
--- what all of them are called
+-- a block of people of whom every element is told, and ends of vector are padding: none is without a slot, the first counters are raised by
+-- what all of them are called, and none by more than their elements
 people_block : (l cs fs : List ℕ) (len n k : ℕ) → 0 < len → 4 ≤ length cs
     → fs ≡ counters 4 0 (halves (numbers 1 (n * len) l)) → k ≡ how_many 0x81 (numbers 1 (n * len) l) → total fs + k ≡ n * len
     → (k ≡ 0) ⊎ ((len ≡ 2) × (firsts_few (people 1 2 n l) ≡ true))
     → (0 ≡ without 1 (people 1 len n l)) × (sums cs fs ≡ raised 0 cs (called 1 (people 1 len n l)))
-people_block l cs fs len n k h g e d q (inl z) = few_block l cs fs len n h g e (omega arith)
+people_block l cs fs len n k h g e d q (inl z) = few_raised l cs fs len n h g e (omega arith)
 people_block l cs fs len n k h g e d q (inr v) =
     let a : told (numbers 1 (n * len) l) ≡ length (numbers 1 (n * len) l) = counted-told ∙ sym (length_numbers 1 (n * len) l) in
     rw v.0 (padded_block l cs fs n g (rw v.0 at e) (all_told _ (rw v.0 at a)) v.1)
@@ -173,12 +173,21 @@ people_block l cs fs len n k h g e d q (inr v) =
     counted-told : told (numbers 1 (n * len) l) ≡ n * len
     counted-told = told_is (numbers 1 (n * len) l) ∙ rw (← e, ← d) q
 
-pub told_block : (l cs fs : List ℕ) (len k : ℕ) → 0 < len → 4 ≤ length cs → length l % (len * 1) ≡ 0
+pub told_block : (m : ℕ) (l cs fs : List ℕ) (len n k : ℕ) → 0 < len → 4 ≤ length cs → AtMost m cs
+    → fs ≡ counters 4 0 (halves (numbers 1 (n * len) l)) → k ≡ how_many 0x81 (numbers 1 (n * len) l) → total fs + k ≡ n * len
+    → (k ≡ 0) ⊎ ((len ≡ 2) × (firsts_few (people 1 2 n l) ≡ true))
+    → (0 ≡ without 1 (people 1 len n l)) × (sums cs fs ≡ raised 0 cs (called 1 (people 1 len n l))) × AtMost (m + n * len) (sums cs fs)
+told_block m l cs fs len n k h g b e d q p =
+    let r = people_block l cs fs len n k h g e d q p in
+    (r.0, r.1, rw r.1 (people_within m l cs len n b))
+
+-- the same of all people that a part is
+pub told_part : (l cs fs : List ℕ) (len k : ℕ) → 0 < len → 4 ≤ length cs → length l % (len * 1) ≡ 0
     → fs ≡ counters 4 0 (halves l) → k ≡ how_many 0x81 l → total fs + k ≡ length l
     → (k ≡ 0) ⊎ ((len ≡ 2) × (firsts_few (everyone 1 2 l) ≡ true))
     → (0 ≡ without 1 (everyone 1 len l)) × (sums cs fs ≡ raised 0 cs (called 1 (everyone 1 len l)))
 unfolding everyone
-told_block l cs fs len k h g z e d q p =
+told_part l cs fs len k h g z e d q p =
     let n = length l / (len * 1) in
     let w : n * len ≡ length l = omega (arith, div-add-mod' (length l) (len * 1), mul_assoc n len 1, mul-one (n * len)) in
     let b : numbers 1 (n * len) l ≡ l = rw w (numbers_bytes l) in

@@ -7,7 +7,7 @@ use lib.ListN.{length}
 use Rattle.vectors.proofs.Plain.{width_1}
 use Rattle.calls.specs.Engine.{folded}
 use Rattle.calls.proofs.Counters.{wider}
-use Rattle.calls.proofs.Padding.{told_block}
+use Rattle.calls.proofs.Padding.{told_part}
 use Rattle.calls.proofs.Pairs.{folded_65}
 use Rattle.calls.proofs.count_block.Goals as goal
 
@@ -24,7 +24,7 @@ returns-then-is_padding c =
     let q : 0 < a.len * 1 = rw w at p.w_in_bounds.2 in
     let z : length a.part.now % (a.len * 1) ≡ 0 = rw w at p.whole.1 in
     let r = c.raise_few.ensures in
-    let b = told_block a.part.now (folded a.pairs.now) _ a.len _ (omega (arith, mul-one a.len))
+    let b = told_part a.part.now (folded a.pairs.now) _ a.len _ (omega (arith, mul-one a.len))
     (omega (arith, folded_65 a.pairs.now p.pairs_len.0)) z f.1 f.2 (omega arith) (c.is_padding.ensures c.if-is_padding.true) in
     record {
       value = rw (f.0, w) b.0;
