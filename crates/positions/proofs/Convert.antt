@@ -1,9 +1,17 @@
 -- Each conversion of positions undoes the other, to VCF and back as to bits and back, and is exactly one more or one less on every position there is.
 -- Rests on specs/Positions.
-use Rattle.std.proofs.Common.{◌≡◌, ℕ, ◌+◌, ◌%◌, ◌^◌, ◌<◌, ℤ, pos, negsuc, refl, arith, to_z-of_z, w32, Fits, SFits, of_z}
+use Rattle.std.proofs.Common.{◌≡◌, ℕ, ◌+◌, ◌%◌, ◌^◌, ◌<◌, ℤ, pos, negsuc, refl, arith, to_z-of_z, w32, Fits, SFits, of_z, ap, to_z, ◌∙◌}
 use mir.Facts.{of_z-to_z, Fits-of_z, sfits_to_z, to_z_pos}
 use Rattle.positions.specs.Positions.{pos_of, pos_bits, one_based, zero_based}
 use Rattle.positions.specs.declared.BcfPosition.{BcfPosition}
+
+-- a position through its bits: k more, in 32 bits
+pub steps : (k : ℕ) {z r : ℤ} {b s : ℕ} → SFits w32 z → b ≡ of_z w32 (to_z w32 (of_z w32 z)) → s ≡ (b + k) % 2 ^ 32 → r ≡ to_z w32 s
+    → to_z w32 (of_z w32 r) ≡ to_z w32 ((of_z w32 z + k) % 2 ^ 32)
+steps k {z} {r} {b} {s} f e q u =
+    let h : s < 2 ^ 32 = omega arith in
+    let v : b ≡ of_z w32 z = e ∙ ap (of_z w32) (to_z-of_z {w = w32} {z = z} f) in
+    rw (u, to_z-of_z {w = w32} {z = to_z w32 s} (sfits_to_z {w = w32} {n = s} (record { fits = h })), q, v)
 
 -- there and back
 pub pos_bits_pos_of : (b : ℕ) → b < 2 ^ 32 → pos_bits (pos_of b) ≡ b
