@@ -3,10 +3,10 @@ use mathlib.Core.Path.{◌≡◌, refl}
 use mathlib.Core.List.{List}
 use mathlib.Core.Bool.{Bool, true, false}
 use mathlib.Core.Option.{Option, none, some}
-use Prim.Native.Nat.{ℕ, ◌/◌, ◌%◌, ◌<◌}
+use Prim.Native.Nat.{ℕ, ◌/◌, ◌%◌, ◌<◌, ◌≤◌}
 use lib.Dec.{ltb, eqb}
 use lib.ListN.{length, take}
-use borrow.Author.Tests.{lt-ltb}
+use borrow.Author.Tests.{lt-ltb, eq-eqb, le-ltb, ne_eqb}
 use Rattle.words.specs.Pick.{pick}
 use Rattle.hexadecimal.specs.Hexadecimal.{digits, eights, choice_of, choice_answered, stored, counted}
 use Rattle.hexadecimal.specs.declared.LineError.TheVariants.{Bad, NoRoom}
@@ -17,6 +17,18 @@ use Rattle.std.specs.Prelude.{Ok, Err}
 pub choice_long : (l : List ℕ) → 240000 < length l → choice_of l ≡ none
 unfolding choice_of
 choice_long l h = rw (lt-ltb _ _ h)
+
+pub choice_part : (l : List ℕ) → length l ≤ 240000 → (length l % 8 ≡ 0 → ⊥) → choice_of l ≡ none
+unfolding choice_of
+choice_part l h o = rw (le-ltb _ _ h, ne_eqb _ _ o)
+
+pub choice_other : (l : List ℕ) → length l ≤ 240000 → length l % 8 ≡ 0 → digits l ≡ false → choice_of l ≡ none
+unfolding choice_of
+choice_other l h o d = rw (le-ltb _ _ h, eq-eqb _ _ o, d)
+
+pub choice_good : (l : List ℕ) → length l ≤ 240000 → length l % 8 ≡ 0 → digits l ≡ true → choice_of l ≡ some (eights (length l / 8) l)
+unfolding choice_of
+choice_good l h o d = rw (le-ltb _ _ h, eq-eqb _ _ o, d)
 
 pub choice_says : (l cs : List ℕ) → choice_of l ≡ some cs → cs ≡ eights (length l / 8) l
 unfolding choice_of

@@ -9,8 +9,9 @@ use lib.ListN.{length, take, drop}
 use lib.Seq.{sets, sets-eq, take-append_seam}
 use native.Mathlib.Nat.{zero-add}
 use native.Mathlib.Omega.{arith}
-use borrow.Author.Tests.{lt-ltb, le-ltb, ltb-false, ne_eqb}
+use borrow.Author.Tests.{lt-ltb, le-ltb, ltb-false, ne_eqb, eq-eqb}
 use Rattle.words.specs.Pick.{pick}
+use Rattle.words.proofs.Pick.{pick_same}
 use Rattle.hexadecimal.specs.Hexadecimal.{digits, line_bytes, frame_of, answered, stored, counted}
 use Rattle.hexadecimal.specs.declared.LineError.TheVariants.{Bad, NoRoom}
 use Rattle.hexadecimal.specs.declared.LineError.{LineError}
@@ -20,6 +21,14 @@ use Rattle.std.specs.Prelude.{Ok, Err}
 pub frame_long : (l : List ℕ) → 60000 < length l → frame_of l ≡ none
 unfolding frame_of
 frame_long l h = rw (lt-ltb _ _ h)
+
+pub frame_odd : (l : List ℕ) → length l % 2 ≡ 1 → frame_of l ≡ none
+unfolding frame_of
+frame_odd l h = rw (eq-eqb _ _ h) (pick_same (ltb 60000 (length l)) none)
+
+pub frame_other : (l : List ℕ) → digits l ≡ false → frame_of l ≡ none
+unfolding frame_of
+frame_other l h = rw (h, pick_same {A = Option (List ℕ)} (eqb (length l % 2) 1) none) (pick_same (ltb 60000 (length l)) none)
 
 pub frame_good : (l : List ℕ) → length l ≤ 60000 → (length l % 2 ≡ 1 → ⊥) → digits l ≡ true → frame_of l ≡ some (line_bytes l)
 unfolding frame_of
