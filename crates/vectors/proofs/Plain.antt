@@ -5,6 +5,7 @@ use mathlib.Core.Bool.{Bool, true, false, ◌&&◌}
 use Prim.Native.Nat.{ℕ, zero, suc, ◌+◌, ◌-◌, ◌*◌, ◌<◌, ◌≤◌}
 use native.Mathlib.Omega.{arith}
 use native.Mathlib.Nat.{suc-mul, suc-add, zero-add, add-zero, zero-mul, add_comm, add_assoc, add-mul, mul_assoc, mul-suc}
+use native.Mathlib.Numerals.{sub-one}
 use lib.Dec.{ltb, eqb}
 use lib.ListN.{drop, get_or}
 use lib.Seq.{drop-drop}
@@ -19,6 +20,15 @@ use Rattle.vectors.specs.Engine.{passed, all_passed, AllOn}
 use Rattle.std.specs.Prelude.{Result, Err, Ok}
 use Rattle.values.specs.Answers.{Answer}
 use Rattle.vectors.specs.Vectors.{numbers, element_turn, vector, vectors, and_then, Sound}
+
+-- one turn of a sweep
+pub sweep_turn : (s : List ℕ) (low high missing most w n at : ℕ) (b : Bool) → 0 < n
+    → pick b (all_passed low high missing most (numbers w n (drop at s))) false
+    ≡ pick (pick b (passed low high missing most (number w (drop at s))) false) (all_passed low high missing most (numbers w (n - 1) (drop (at + w) s))) false
+unfolding all_passed numbers
+sweep_turn s low high missing most w zero at b h = absurd (omega arith)
+sweep_turn s low high missing most w (suc n) at true h = rw (sub-one, drop-drop w at s)
+sweep_turn s low high missing most w (suc n) at false h = refl
 
 pub and_pick : (a b : Bool) → a && b ≡ pick a b false
 and_pick true b = refl
@@ -150,6 +160,13 @@ unfolding vectors
 vectors_add most t w len zero n at l = rw (zero-add, zero-mul, add-zero)
 vectors_add most t w len (suc m) n at l =
     rw (suc-add m n, vectors_add most t w len m n (at + len * w) (drop (len * w) l), and_and, drop-drop (m * (len * w)) (len * w) l, suc-mul m (len * w), add_comm (m * (len * w)) (len * w), add_assoc)
+
+pub vectors_block : (s : List ℕ) (most t w len n k at : ℕ) → k ≤ n
+    → vectors most t w len n at (drop at s)
+    ≡ and_then (vectors most t w len k at (drop at s)) (vectors most t w len (n - k) (at + k * (len * w)) (drop (at + k * (len * w)) s))
+vectors_block s most t w len n k at h =
+    let e : k + (n - k) ≡ n = omega arith in
+    rw (← drop-drop (k * (len * w)) at s, ← vectors_add most t w len k (n - k) at (drop at s), e)
 
 -- room for n vectors is room for k of them and for the others
 pub block_room : (at n k w m : ℕ) → k ≤ n → at + n * w ≤ m → at + k * w + (n - k) * w ≤ m
