@@ -4,7 +4,7 @@ use mathlib.Core.List.{List, [], ◌∷◌, ◌++◌}
 use Prim.Native.Nat.{ℕ, zero, suc, ◌+◌, ◌*◌, ◌-◌, ◌/◌, ◌%◌, ◌^◌, ◌<◌, ◌≤◌}
 use native.Mathlib.Omega.{arith}
 use native.Mathlib.Nat.{add-sub_cancel_left, pow-suc}
-use lib.ListN.{length, get_or, take, drop, length-take, drop_of_length-le, get_or-eq_default}
+use lib.ListN.{length, get_or, take, drop, length-take, drop_of_length-le, get_or-eq_default, length-drop}
 use lib.Seq.{take_all, take_at, take-nil}
 use Rattle.words.specs.Words.{le, number, bytes, Bytes}
 
@@ -25,6 +25,12 @@ pub number_past : (s : List ℕ) (at w : ℕ) → length s ≤ at → number 4 (
 unfolding number le
 number_past s at w h = rw (drop_of_length-le s h, take-nil {A = ℕ} w)
 
+-- where fewer than w bytes are left
+pub number_rest : (s : List ℕ) (at w : ℕ) → length s - at ≤ w
+    → number 4 (take (length s - at) (drop at s)) ≡ number 4 (take w (drop at s))
+number_rest s at w h =
+    rw (take_all (length s - at) (drop at s) (rw length-drop (omega arith)), take_all w (drop at s) (rw length-drop (omega arith)))
+
 -- a part of at most four bytes
 pub number_part : (w : ℕ) (l : List ℕ) → w ≤ 4 → number 4 (take w l) ≡ number w l
 unfolding number
@@ -33,6 +39,10 @@ number_part w l h = rw (take_all 4 (take w l) (rw length-take (omega arith)))
 -- the part of w bytes from a place on
 pub number_at : (s : List ℕ) (at w : ℕ) → w ≤ 4 → number 4 (take (at + w - at) (drop at s)) ≡ number w (drop at s)
 number_at s at w h = rw add-sub_cancel_left (number_part w (drop at s) h)
+
+pub number_between : (s : List ℕ) (first stop w : ℕ) → stop ≡ first + w → w ≤ 4
+    → number 4 (take (stop - first) (drop first s)) ≡ number w (drop first s)
+number_between s first stop w e h = rw e (number_at s first w h)
 
 -- bounds
 pub le_bound : (l : List ℕ) → Bytes l → le l < 256 ^ length l
