@@ -3,7 +3,7 @@ use mathlib.Core.Path.{◌≡◌, refl}
 use mathlib.Core.List.{List, []}
 use Prim.Native.Nat.{ℕ, ◌+◌, ◌-◌, ◌<◌, ◌≤◌}
 use native.Mathlib.Omega.{arith}
-use native.Mathlib.Nat.{add-zero}
+use native.Mathlib.Nat.{add-zero, add-sub_cancel_left}
 use lib.ListN.{length, take, drop, length-drop, drop_of_length-le}
 use lib.Seq.{sets, take-nil}
 use borrow.Author.Tests.{lt-ltb, le-ltb}
@@ -24,6 +24,12 @@ taken_past line held piece at h =
 pub into_past : (line : List ℕ) (held : ℕ) (piece : List ℕ) (at : ℕ) → length piece ≤ at → taken_into line held piece at ≡ line
 unfolding taken_into
 into_past line held piece at h = rw (added_past line held piece at h)
+
+-- up to a place where the line ends
+pub added_to : (line : List ℕ) (held : ℕ) (piece : List ℕ) (at end : ℕ) → end ≡ at + line_length (drop at piece)
+    → added line held piece at ≡ fitting line held (take (end - at) (drop at piece))
+unfolding added
+added_to line held piece at end e = rw (e, add-sub_cancel_left)
 
 -- a line whose feed is there, and a piece that ends before its line does
 pub taken_line : (line : List ℕ) (held : ℕ) (piece : List ℕ) (at : ℕ) → at + line_length (drop at piece) < length piece
