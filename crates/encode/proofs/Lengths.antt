@@ -16,6 +16,8 @@ use Rattle.types.specs.Rows.{width_of, row_of, unused}
 use Rattle.types.specs.declared.Row.{Row}
 use Rattle.types.specs.Elements.{narrowest}
 use Rattle.encode.specs.Encode.{integer_bytes, descriptor_bytes, narrowed, elements_bytes, value_bytes}
+use mir.Val.{Fits}
+use mir.Syntax.{w8}
 
 -- an integer: its descriptor, and as many bytes as its type is wide
 pub length_integer_bytes : (x : ℕ) → length (integer_bytes x) ≡ 1 + width_of (narrowest x)
@@ -54,6 +56,11 @@ text_elements [] h = refl
 text_elements (x ∷ xs) h =
     let q : x % 256 ≡ x = let p : x < 256 = h.0 in omega arith in
     rw (q, text_elements xs h.1)
+
+-- each number of lent text is a byte
+pub text_Bytes : (xs : List ℕ) → ((i : ℕ) → Fits w8 (get_or xs i 0)) → Bytes xs
+text_Bytes [] h = tt
+text_Bytes (x ∷ xs) h = ((h 0).fits, text_Bytes xs (λ i. h (suc i)))
 
 -- a type that is none of these has no width, and its elements no bytes
 elements_none : (t : ℕ) → width_of t ≡ 0 → (xs : List ℕ) → elements_bytes t xs ≡ []

@@ -5,8 +5,10 @@ use mathlib.Core.List.{List, [], ◌∷◌, map}
 use mathlib.Core.Bool.{Bool, true, false, ◌&&◌}
 use Prim.Native.Nat.{ℕ, ◌+◌, ◌-◌, ◌<◌, ◌≤◌, max}
 use native.Mathlib.Omega.{arith}
+use native.Mathlib.Numerals.{add-one}
 use lib.Dec.{ltb, leb, eqb}
-use lib.ListN.{length, get_or, take, length-map}
+use lib.ListN.{length, get_or, drop, take, length-map}
+use lib.Seq.{drop-cons}
 use lib.IntN.{ℤ, pos}
 use mir.Syntax.{w32}
 use mir.Val.{of_z}
@@ -58,8 +60,8 @@ type_any x = by-marks (eqb x 0x80000000) (eqb x 0x80000001) refl refl
     by-marks false false p q = type_plain x (eqb-false _ _ p) (eqb-false _ _ q)
 
 -- types 1 and 2 take what is in their range, and the marks
-fits_1 : (x : ℕ) → leb (type_for (kind 3 x) x) 1 ≡ taken 127 0xFFFFFF88 x
-unfolding narrowest taken
+pub fits_1 : (x : ℕ) → leb (type_for (kind 3 x) x) 1 ≡ pick (leb x 127) true (pick (leb 0xFFFFFF88 x) true (is_mark x))
+unfolding narrowest
 fits_1 x = rw (type_any x) (by_tests (leb x 127) (leb 0xFFFFFF88 x) (leb x 32767) (leb 0xFFFF8008 x) (is_mark x))
   where
     by_tests : (a b d e m : Bool) → leb (pick m 1 (pick a 1 (pick b 1 (pick d 2 (pick e 2 3))))) 1 ≡ pick a true (pick b true m)
@@ -73,8 +75,8 @@ fits_1 x = rw (type_any x) (by_tests (leb x 127) (leb 0xFFFFFF88 x) (leb x 32767
     by_tests false false false true false = refl
     by_tests false false false false false = refl
 
-fits_2 : (x : ℕ) → leb (type_for (kind 3 x) x) 2 ≡ taken 32767 0xFFFF8008 x
-unfolding narrowest taken
+pub fits_2 : (x : ℕ) → leb (type_for (kind 3 x) x) 2 ≡ pick (leb x 32767) true (pick (leb 0xFFFF8008 x) true (is_mark x))
+unfolding narrowest
 fits_2 x = rw (type_any x) (by_tests (leb x 127) (leb 0xFFFFFF88 x) (leb x 32767) (leb 0xFFFF8008 x) (is_mark x) refl refl refl refl)
   where
     by_tests : (a b d e m : Bool) → leb x 127 ≡ a → leb 0xFFFFFF88 x ≡ b → leb x 32767 ≡ d → leb 0xFFFF8008 x ≡ e
@@ -121,7 +123,13 @@ leb_max a b t = by_tests (leb a t) (leb b t) refl refl
     by_tests true false hp hq = let r : t < b = leb-false _ _ hq in lt-leb (max a b) t (omega arith)
     by_tests false q hp hq = let l : t < a = leb-false _ _ hp in lt-leb (max a b) t (omega arith)
 
--- one integer more of a sweep
+-- one integer more of a sweep, of what is still to come and of what was
+pub sweep_turn : (xs : List ℕ) (t i : ℕ) (b : Bool) → i < length xs
+    → b && leb (widest (drop i xs)) t ≡ (b && leb (type_for (kind 3 (get_or xs i 0)) (get_or xs i 0)) t) && leb (widest (drop (i + 1) xs)) t
+unfolding widest
+sweep_turn xs t i true h = rw (drop-cons xs i 0 h, add-one i, leb_max)
+sweep_turn xs t i false h = refl
+
 pub swept_more : (test : ℕ → Bool) (zs : List ℤ) (i : ℕ) → i < length zs
     → list_all test (take (i + 1) (map (of_z w32) zs)) ≡ (list_all test (take i (map (of_z w32) zs)) && test (of_z w32 (get_or zs i (pos 0))))
 swept_more test zs i h = rw (← bits_at zs i) (list_all_more test (map (of_z w32) zs) i 0 (rw length-map h))
@@ -133,9 +141,11 @@ all_below t test h e [] = rw (le-leb 1 t h)
 all_below t test h e (x ∷ xs) = rw (leb_max, ← e x, all_below t test h e xs)
 
 pub all_1 : (xs : List ℕ) → list_all (taken 127 0xFFFFFF88) xs ≡ leb (widest xs) 1
+unfolding taken
 all_1 xs = all_below 1 (taken 127 0xFFFFFF88) (omega arith) fits_1 xs
 
 pub all_2 : (xs : List ℕ) → list_all (taken 32767 0xFFFF8008) xs ≡ leb (widest xs) 2
+unfolding taken
 all_2 xs = all_below 2 (taken 32767 0xFFFF8008) (omega arith) fits_2 xs
 
 -- the first type that takes all is the widest
