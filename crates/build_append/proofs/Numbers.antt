@@ -40,6 +40,10 @@ room_zero at size room h = by_tests (ltb most_bytes (at + size)) (ltb room (at +
     by_tests false true e f k = absurd (omega arith)
     by_tests false false e f k = (ltb-false most_bytes (at + size) e, ltb-false room (at + size) f)
 
+-- the first of two numbers, each known by another name
+pub first_eq : (n a b c d : ℕ) → n ≡ first_of a b → a ≡ c → b ≡ d → n ≡ first_of c d
+first_eq n a b c d h p q = rw (← p, ← q) h
+
 -- where both the rules and the room are sound, the bytes fit
 pub append_room : (n rules at size room : ℕ) → n ≡ first_of rules (room_number at size room) → n ≡ 0 → (at + size ≤ most_bytes) × (at + size ≤ room)
 append_room n rules at size room h z = room_zero at size room (first_zero rules (room_number at size room) (sym h ∙ z)).1

@@ -23,10 +23,10 @@ use Rattle.build_append.specs.Append.{first_of, room_number, head_bytes, vector_
 use Rattle.build_append.specs.declared.Field.{Field}
 use Rattle.build_append.specs.declared.Field.TheVariants.{Alone, Info, Format}
 use Rattle.build_append.specs.declared.Written.{Written}
-use Rattle.build_append.proofs.Numbers.{append_room}
+use Rattle.build_append.proofs.Numbers.{append_room, first_zero}
 
 -- every kind is written in a type with a width
-integer_wide : (t : ℕ) → 1 ≤ t → t ≤ 3 → 1 ≤ width_of t
+pub integer_wide : (t : ℕ) → 1 ≤ t → t ≤ 3 → 1 ≤ width_of t
 unfolding width_of row_of
 integer_wide zero h k = absurd (omega arith)
 integer_wide (suc zero) h k = omega arith
@@ -78,6 +78,11 @@ pub written_room : (w : Written) (at room rules : ℕ) (bs : List ℕ) → w ≡
 unfolding written
 written_room w at room rules bs h z =
     rw (ap (λ v. v.size) h) (append_room w.number rules at (length bs) room (ap (λ v. v.number) h) z).0
+
+pub written_rules : (w : Written) (at room rules : ℕ) (bs : List ℕ) → w ≡ written at room rules bs → w.number ≡ 0 → rules ≡ 0
+unfolding written
+written_rules w at room rules bs h z =
+    (first_zero rules (room_number at (length bs) room) (sym (ap (λ v. v.number) h) ∙ z)).0
 
 -- a value right behind what stands before it, with the length of each vector
 pub field_eq : (f : Field) (k : Kind) (n : ℕ) (xs : List ℕ) → n ≡ vector_length f (length xs) → head_bytes f ++ given_bytes k n xs ≡ field_bytes f k xs
