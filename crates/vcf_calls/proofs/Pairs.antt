@@ -14,7 +14,7 @@ use Rattle.decimal.proofs.Decimal.{below_ten}
 use Rattle.elements.proofs.Elements.{byte_number}
 use Rattle.vcf_calls.specs.Words.{slot_word, separator, call_of_number}
 use Rattle.vcf_calls.specs.Engine.{column_of, single_text, pair_text}
-use Rattle.vcf_calls.proofs.Words.{end_shown, missing_word, allele_word, later_none, later_end, later_on, person_on}
+use Rattle.vcf_calls.proofs.Words.{end_shown, missing_word, allele_word, later_text_none, later_text_end, later_text_on, person_text_on}
 
 -- a code below 22 is a dot or one digit
 pub one_digit : (x : ℕ) → 2 ≤ x → x < 22 → slot_word (call_of_number x) ≡ (0x30 + (x / 2 - 1)) ∷ []
@@ -53,8 +53,8 @@ single_column s a n p q h =
     let e : a ≡ shown 1 (number 1 s) = narrow a h ∙ rw (byte_number s 0, p) in
     let d : shown 1 (number 1 (drop 1 s)) ≡ end_shown = rw (byte_number s 1, ← q) end_narrow in
     rw (
-      person_on 1 1 s a (sym width_1) (omega arith) (omega arith) e (omega arith) (λ z. omega arith),
-      later_end 1 1 (drop 1 s) (sym width_1) (omega arith) (rw length-drop (omega arith)) d,
+      person_text_on 1 1 s a (sym width_1) (omega arith) (omega arith) e (omega arith) (λ z. omega arith),
+      later_text_end 1 1 (drop 1 s) (sym width_1) (omega arith) (rw length-drop (omega arith)) d,
       append-nil (slot_word (call_of_number a)),
     )
 
@@ -64,8 +64,8 @@ pair_column s a b n p q h k =
     let e : a ≡ shown 1 (number 1 s) = narrow a h ∙ rw (byte_number s 0, p) in
     let d : b ≡ shown 1 (number 1 (drop 1 s)) = narrow b k ∙ rw (byte_number s 1, q) in
     rw (
-      person_on 1 1 s a (sym width_1) (omega arith) (omega arith) e (omega arith) (λ z. omega arith),
-      later_on 1 1 (drop 1 s) b (sym width_1) (omega arith) (rw length-drop (omega arith)) d (omega arith) (λ z. omega arith),
-      later_none 1 1 (drop 1 (drop 1 s)) (sym width_1) (rw (length-drop, length-drop) (omega arith)),
+      person_text_on 1 1 s a (sym width_1) (omega arith) (omega arith) e (omega arith) (λ z. omega arith),
+      later_text_on 1 1 (drop 1 s) b (sym width_1) (omega arith) (rw length-drop (omega arith)) d (omega arith) (λ z. omega arith),
+      later_text_none 1 1 (drop 1 (drop 1 s)) (sym width_1) (rw (length-drop, length-drop) (omega arith)),
       append-nil (slot_word (call_of_number b)),
     )

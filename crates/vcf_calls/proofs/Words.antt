@@ -148,32 +148,67 @@ chunk_front w s x rest e h =
     (rw (e, take-append-le w x rest k), rw e (rw h at (drop-append_seam x rest)), rw (e, length-append) (omega arith))
 
 -- later slots: up to the first end of vector
-pub later_none : (t w : ℕ) (s : List ℕ) → w ≡ width_of t → length s < w → later_text t s ≡ []
+pub later_text_none : (t w : ℕ) (s : List ℕ) → w ≡ width_of t → length s < w → later_text t s ≡ []
 unfolding later_text later_words slot_calls
-later_none t w s e h = rw (elements_none t w s e h)
+later_text_none t w s e h = rw (elements_none t w s e h)
 
-pub later_end : (t w : ℕ) (s : List ℕ) → w ≡ width_of t → 0 < w → w ≤ length s → shown t (number w s) ≡ end_shown → later_text t s ≡ []
+pub later_text_end : (t w : ℕ) (s : List ℕ) → w ≡ width_of t → 0 < w → w ≤ length s → shown t (number w s) ≡ end_shown → later_text t s ≡ []
 unfolding later_text later_words slot_calls
-later_end t w s e p h q = rw (elements_first t w s e p h, q, end_call)
+later_text_end t w s e p h q = rw (elements_first t w s e p h, q, end_call)
 
-pub later_on : (t w : ℕ) (s : List ℕ) (x : ℕ) → w ≡ width_of t → 0 < w → w ≤ length s → x ≡ shown t (number w s) → x < 2 ^ 32 → x ≢ end_shown
+pub later_text_on : (t w : ℕ) (s : List ℕ) (x : ℕ) → w ≡ width_of t → 0 < w → w ≤ length s → x ≡ shown t (number w s) → x < 2 ^ 32 → x ≢ end_shown
     → later_text t s ≡ separator (call_of_number x) ∷ (slot_word (call_of_number x) ++ later_text t (drop w s))
 unfolding later_text later_words slot_calls
-later_on t w s x e p h q b o = rw (elements_first t w s e p h, ← q, on_call x b o _)
+later_text_on t w s x e p h q b o = rw (elements_first t w s e p h, ← q, on_call x b o _)
+
+-- the words of elements one by one, of so many from the front on: up to the first end of vector
+abbrev pub later_of : ℕ → ℕ → ℕ → List ℕ → List ℕ
+later_of t w n l = later_words (slot_calls (shown_numbers t w n l))
+
+pub later_none : (t w : ℕ) (l : List ℕ) → later_of t w 0 l ≡ []
+unfolding later_words slot_calls shown_numbers
+later_none t w l = refl
+
+pub later_end : (t w n : ℕ) (l : List ℕ) → 0 < n → shown t (number w l) ≡ end_shown → later_of t w n l ≡ []
+unfolding later_words slot_calls shown_numbers
+later_end t w zero l h e = refl
+later_end t w (suc n) l h e = rw (e, end_call)
+
+pub later_on : (t w n : ℕ) (l : List ℕ) (x : ℕ) → 0 < n → x ≡ shown t (number w l) → x < 2 ^ 32 → x ≢ end_shown
+    → later_of t w n l ≡ separator (call_of_number x) ∷ (slot_word (call_of_number x) ++ later_of t w (n - 1) (drop w l))
+unfolding later_words slot_calls shown_numbers
+later_on t w zero l x h e b o = absurd (omega arith)
+later_on t w (suc n) l x h e b o = rw (sub-one, ← e, on_call x b o (slot_calls (shown_numbers t w n (drop w l))))
 
 -- a person's word: a dot, or the first slot and the later ones
-pub person_none : (t w : ℕ) (s : List ℕ) → w ≡ width_of t → length s < w → person_text t s ≡ dot
-unfolding person_text genotype_word person_word slot_calls
-person_none t w s e h = rw (elements_none t w s e h)
+pub person_none : (t w : ℕ) (l : List ℕ) → genotype_word (shown_numbers t w 0 l) ≡ dot
+unfolding genotype_word person_word slot_calls shown_numbers
+person_none t w l = refl
 
-pub person_end : (t w : ℕ) (s : List ℕ) → w ≡ width_of t → 0 < w → w ≤ length s → shown t (number w s) ≡ end_shown → person_text t s ≡ dot
-unfolding person_text genotype_word person_word slot_calls
-person_end t w s e p h q = rw (elements_first t w s e p h, q, end_call)
+pub person_end : (t w n : ℕ) (l : List ℕ) → shown t (number w l) ≡ end_shown → genotype_word (shown_numbers t w n l) ≡ dot
+unfolding genotype_word person_word slot_calls shown_numbers
+person_end t w zero l e = refl
+person_end t w (suc n) l e = rw (e, end_call)
 
-pub person_on : (t w : ℕ) (s : List ℕ) (x : ℕ) → w ≡ width_of t → 0 < w → w ≤ length s → x ≡ shown t (number w s) → x < 2 ^ 32 → x ≢ end_shown
+pub person_on : (t w n : ℕ) (l : List ℕ) (x : ℕ) → 0 < n → x ≡ shown t (number w l) → x < 2 ^ 32 → x ≢ end_shown
+    → genotype_word (shown_numbers t w n l) ≡ slot_word (call_of_number x) ++ later_of t w (n - 1) (drop w l)
+unfolding genotype_word person_word slot_calls shown_numbers
+person_on t w zero l x h e b o = absurd (omega arith)
+person_on t w (suc n) l x h e b o = rw (sub-one, ← e, on_call x b o (slot_calls (shown_numbers t w n (drop w l))))
+
+-- the same of a person's own bytes
+pub person_text_none : (t w : ℕ) (s : List ℕ) → w ≡ width_of t → length s < w → person_text t s ≡ dot
+unfolding person_text genotype_word person_word slot_calls
+person_text_none t w s e h = rw (elements_none t w s e h)
+
+pub person_text_end : (t w : ℕ) (s : List ℕ) → w ≡ width_of t → 0 < w → w ≤ length s → shown t (number w s) ≡ end_shown → person_text t s ≡ dot
+unfolding person_text genotype_word person_word slot_calls
+person_text_end t w s e p h q = rw (elements_first t w s e p h, q, end_call)
+
+pub person_text_on : (t w : ℕ) (s : List ℕ) (x : ℕ) → w ≡ width_of t → 0 < w → w ≤ length s → x ≡ shown t (number w s) → x < 2 ^ 32 → x ≢ end_shown
     → person_text t s ≡ slot_word (call_of_number x) ++ later_text t (drop w s)
 unfolding person_text later_text genotype_word person_word slot_calls
-person_on t w s x e p h q b o = rw (elements_first t w s e p h, ← q, on_call x b o _)
+person_text_on t w s x e p h q b o = rw (elements_first t w s e p h, ← q, on_call x b o _)
 
 -- a dot for each of some people, one by one
 pub dots_on : (n : ℕ) → 0 < n → followed 0x09 (replicate n dot) ≡ 0x09 ∷ (0x2E ∷ followed 0x09 (replicate (n - 1) dot))
