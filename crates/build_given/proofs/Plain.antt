@@ -1,18 +1,20 @@
 -- Elements that pass, every one: nothing is wrong with vectors of nothing else. Rests on vectors' rule for elements that pass.
-use mathlib.Core.Path.{◌≡◌, refl}
+use mathlib.Core.Path.{◌≡◌, refl, sym}
 use mathlib.Core.List.{List, [], ◌∷◌, map}
-use mathlib.Core.Bool.{Bool, true, false}
-use Prim.Native.Nat.{ℕ, zero, suc, ◌/◌, ◌<◌}
+use mathlib.Core.Bool.{Bool, true, false, ◌&&◌}
+use Prim.Native.Nat.{ℕ, zero, suc, ◌/◌, ◌<◌, ◌+◌}
 use native.Mathlib.Omega.{arith}
+use native.Mathlib.Numerals.{add-one}
 use lib.Dec.{ltb}
-use lib.ListN.{length, take, drop}
+use lib.ListN.{length, take, drop, get_or}
 use borrow.Author.Tests.{lt-ltb, eq-eqb}
 use Rattle.std.proofs.lemmas.List.{map-id}
 use Rattle.words.specs.Pick.{pick}
 use Rattle.vectors.specs.Engine.{passed, all_passed, AllOn}
-use Rattle.vectors.proofs.Plain.{all_on, on_3, on_5, vector_on}
+use Rattle.vectors.proofs.Plain.{all_on, on_3, on_5, vector_on, and_pick}
 use Rattle.vectors.specs.Vectors.{Sound}
 use Rattle.build_given.specs.Given.{vectors_given, elements_number}
+use lib.Seq.{drop-cons}
 
 -- the missing mark passes, whatever the most is
 pub missing_passes : (low high missing most x : ℕ) → missing < low → x ≡ missing → true ≡ passed low high missing most x
@@ -22,6 +24,14 @@ missing_passes low high missing most x h e = rw (eq-eqb x missing e, lt-ltb x lo
     by_most : (b : Bool) → true ≡ pick b true true
     by_most true = refl
     by_most false = refl
+
+-- one element more of those that are left
+pub sweep_turn : (xs : List ℕ) (low high missing most i : ℕ) (b : Bool) → i < length xs
+    → b && all_passed low high missing most (drop i xs)
+    ≡ (b && passed low high missing most (get_or xs i 0)) && all_passed low high missing most (drop (i + 1) xs)
+unfolding all_passed
+sweep_turn xs low high missing most i true h = rw (drop-cons xs i 0 h, add-one i) (sym (and_pick (passed low high missing most (get_or xs i 0)) (all_passed low high missing most (drop (suc i) xs))))
+sweep_turn xs low high missing most i false h = refl
 
 -- elements that all go on: the first of them, and the others
 on_take : (most t n : ℕ) (xs : List ℕ) → AllOn most t xs → AllOn most t (take n xs)
