@@ -34,6 +34,12 @@ pub get_or_elements : (t i : ℕ) (l : List ℕ) → i < length l / width_of t
 unfolding shown_elements
 get_or_elements t i l h = get_or_shown t (width_of t) (length l / width_of t) i l h
 
+-- an element by its index has room
+pub element_room : (i w m : ℕ) → i < m / w → i * w + w ≤ m
+element_room i w m h =
+    let q : suc i * w ≤ m / w * w = mul-le-mul_right w h in
+    omega (arith, q, suc-mul i w, div-mul-le_self m w)
+
 -- the front of a part, k elements long, has the first k elements
 drop_take : (m n : ℕ) (l : List ℕ) → drop m (take (m + n) l) ≡ take n (drop m l)
 drop_take zero n l = let e : 0 + n ≡ n = omega arith in rw e
@@ -61,3 +67,8 @@ elements_front t k l h =
     let w = width_of t in
     let e : length (take (k * w) l) ≡ k * w = length-take-le (k * w) l (front_room k w (length l) h) in
     rw (e, whole k w (length l) h) (shown_front t w k (length l / w) l h)
+
+-- and is shorter than a part of more
+pub front_less : (k w m : ℕ) → k < m / w → k * w < m
+front_less k zero m h = absurd (omega (arith, h, div-zero m))
+front_less k (suc w) m h = omega (arith, element_room k (suc w) m h)

@@ -1,6 +1,6 @@
 -- The first number of a list that is outside, or stood earlier: one turn of the loops, and the index that all turns come to. Rests on
 -- specs/Repeats and specs/Engine.
-use mathlib.Core.Path.{◌≡◌, refl, sym, ◌∙◌}
+use mathlib.Core.Path.{◌≡◌, refl, sym, ◌∙◌, ap}
 use mathlib.Core.Logic.{◌⊎◌, ⊎_elim}
 use mathlib.Core.List.{List, [], ◌∷◌, map}
 use mathlib.Core.Bool.{Bool, true, false}
@@ -60,6 +60,25 @@ found xs b l s f = sym (from b 0 (omega arith))
         let z : i ≡ b = omega arith in
         rw z last
     from (suc d) i e = rw (drop-cons xs i 0 (omega arith), f i (omega arith), from d (suc i) (omega arith))
+
+-- a repeat among the first numbers is the first of all
+repeat_after_early : (n : ℕ) (earlier xs : List ℕ) → n ≤ length xs → repeat_after earlier (take n xs) < n
+    → repeat_after earlier (take n xs) ≡ repeat_after earlier xs
+unfolding repeat_after
+repeat_after_early zero earlier xs l h = absurd (omega arith)
+repeat_after_early (suc n) earlier [] l h = absurd (omega arith)
+repeat_after_early (suc n) earlier (x ∷ xs) l h =
+    by-test (among x earlier) h (λ k. repeat_after_early n (x ∷ earlier) xs (omega arith) k)
+  where
+    by-test : (b : Bool) → pick b 0 (suc (repeat_after (x ∷ earlier) (take n xs))) < suc n
+        → (repeat_after (x ∷ earlier) (take n xs) < n → repeat_after (x ∷ earlier) (take n xs) ≡ repeat_after (x ∷ earlier) xs)
+        → pick b 0 (suc (repeat_after (x ∷ earlier) (take n xs))) ≡ pick b 0 (suc (repeat_after (x ∷ earlier) xs))
+    by-test true k f = refl
+    by-test false k f = ap suc (f (omega arith))
+
+pub repeat_early : (n : ℕ) (xs : List ℕ) → n ≤ length xs → first_repeat (take n xs) < n → first_repeat (take n xs) ≡ first_repeat xs
+unfolding first_repeat
+repeat_early n xs l h = repeat_after_early n [] xs l h
 
 -- the numbers of a part are a part of the numbers
 pub map_part {ℓ} : {A : Type ℓ} (f : A → ℕ) (xs : List A) (n : ℕ) → map f (take n xs) ≡ take n (map f xs)
