@@ -1,16 +1,23 @@
 -- Texts in a buffer: what is answered to one, and two put one after the other. Rests on specs/Decimal.
 use mathlib.Core.Path.{◌≡◌}
-use mathlib.Core.List.{List, ◌++◌}
-use Prim.Native.Nat.{ℕ, ◌+◌, ◌≤◌}
+use mathlib.Core.List.{List, ◌++◌, [], ◌∷◌}
+use Prim.Native.Nat.{ℕ, ◌+◌, ◌≤◌, suc}
 use native.Mathlib.Omega.{arith}
-use lib.ListN.{length, length-append}
-use lib.Seq.{sets, length-sets}
+use native.Mathlib.Nat.{add-suc, add-zero, suc-add}
+use lib.ListN.{length, length-append, set}
+use lib.Seq.{sets, length-sets, set_comm}
 use borrow.Author.Tests.{lt-ltb, le-ltb}
 use Rattle.std.specs.Prelude.{Some, None, false}
 use Rattle.words.proofs.Stores.{sets_append}
 use Rattle.stores.specs.Stores.{fits, filled}
 use Rattle.stores.proofs.Room.{room_short}
 use Rattle.decimal.specs.Decimal.{placed}
+
+-- the last character may be stored before the others
+pub last_first : (xs : List ℕ) (c : ℕ) (l : List ℕ) (i : ℕ) → sets l i (xs ++ (c ∷ [])) ≡ sets (set l (i + length xs) c) i xs
+last_first [] c l i = rw add-zero
+last_first (x ∷ xs) c l i =
+    rw (last_first xs c (set l i x) (suc i), set_comm l i (suc i + length xs) x c (omega arith), add-suc i (length xs), suc-add i (length xs))
 
 -- what is answered where a text has no room, and where it has
 pub placed_short : (room at : ℕ) (text : List ℕ) → fits room at (length text) ≡ false → placed room at text ≡ None
