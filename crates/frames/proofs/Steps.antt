@@ -46,17 +46,17 @@ framed_there room short there line h = by-frame (frame_of line) refl
         let m = frame_most line bs e in
         rw (le-ltb room (length bs) (omega (arith, m)))
 
-said_there : (room : ℕ) (out : List ℕ) (f : Facts) (line : List ℕ) → frame_room ≤ room → text_room ≤ length out
+pub said_there : (room : ℕ) (out : List ℕ) (f : Facts) (line : List ℕ) → frame_room ≤ room → text_room ≤ length out
     → line_said room (length out) f line ≡ Some (length (answer_line f line))
 unfolding line_said
 said_there room out f line h k = rw (le-ltb (length out) text_room k) (framed_there room _ (Some (length (answer_line f line))) line h)
 
-said_in_there : (room : ℕ) (out : List ℕ) (f : Facts) (line : List ℕ) → frame_room ≤ room → text_room ≤ length out
+pub said_in_there : (room : ℕ) (out : List ℕ) (f : Facts) (line : List ℕ) → frame_room ≤ room → text_room ≤ length out
     → line_said_in room out f line ≡ sets out 0 (answer_line f line)
 unfolding line_said_in
 said_in_there room out f line h k = rw (le-ltb (length out) text_room k) (framed_there room out (sets out 0 (answer_line f line)) line h)
 
-decoded_there : (frame : List ℕ) (out : ℕ) (line : List ℕ) → text_room ≤ out → decoded frame out line ≡ stored frame (frame_of line)
+pub decoded_there : (frame : List ℕ) (out : ℕ) (line : List ℕ) → text_room ≤ out → decoded frame out line ≡ stored frame (frame_of line)
 unfolding decoded
 decoded_there frame out line k = rw (le-ltb out text_room k)
 

@@ -18,7 +18,7 @@ unfolding placed
 placed_room room at text h = rw (le-ltb _ _ h)
 
 -- two runs of numbers
-spaced_append : (xs ys : List ℕ) → spaced (xs ++ ys) ≡ spaced xs ++ spaced ys
+pub spaced_append : (xs ys : List ℕ) → spaced (xs ++ ys) ≡ spaced xs ++ spaced ys
 unfolding spaced
 spaced_append [] ys = refl
 spaced_append (x ∷ xs) ys = rw (spaced_append xs ys, append_assoc (decimal x) (spaced xs) (spaced ys))
