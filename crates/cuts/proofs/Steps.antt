@@ -50,6 +50,23 @@ step_rooms choice frame chosen out waiting stage h =
       room_there out waiting line_room four.1,
     )
 
+pub roomy_there : (frame chosen out : List ℕ) → record_room ≤ length frame → record_room ≤ length chosen → line_room ≤ length out
+    → roomy frame chosen out ≡ true
+unfolding roomy
+roomy_there frame chosen out f c o =
+    rw (le-ltb (length frame) record_room f, le-ltb (length chosen) record_room c, le-ltb (length out) line_room o)
+
+pub cut_there : (frame chosen out : List ℕ) (f : Facts) (cs line : List ℕ) → roomy frame chosen out ≡ true
+    → (cut frame chosen out f cs line ≡ Some (length (cut_line f cs line))) × (cut_out frame chosen out f cs line ≡ sets out 0 (cut_line f cs line))
+    × (cut_from frame chosen out line ≡ stored frame (frame_of line)) × (cut_kept frame chosen out f cs line ≡ kept_frame f cs chosen (frame_of line))
+unfolding cut cut_out cut_from cut_kept
+cut_there frame chosen out f cs line h = (rw h, rw h, rw h, rw h)
+
+pub release_there : (out : List ℕ) (f : Facts) (people : ℕ) → line_room ≤ length out
+    → (release_said (length out) f people ≡ Some (length (release_line f people))) × (release_said_in out f people ≡ sets out 0 (release_line f people))
+unfolding release_said release_said_in
+release_there out f people h = let e = le-ltb (length out) 33 (omega arith) in (rw e, rw e)
+
 -- what is said of a line, of a choice and of a bad line behind what waits, and the buffers then
 pub cut_behind : (frame chosen out : List ℕ) (w : ℕ) (f : Facts) (cs line : List ℕ) → record_room ≤ length frame → record_room ≤ length chosen
     → w + line_room ≤ length out
