@@ -61,14 +61,25 @@ unfolding listed joined_by
 listed_on c x xs = refl
 
 -- names: the first offset's, and those of the others
+pub no_names_lem : (string : ℕ → List ℕ) (t w : ℕ) (l : List ℕ) → map string (shown_numbers t w 0 l) ≡ []
+unfolding shown_numbers
+no_names_lem string t w l = refl
+
+pub names_on : (string : ℕ → List ℕ) (t w n : ℕ) (l : List ℕ) → 0 < n
+    → map string (shown_numbers t w n l) ≡ string (shown t (number w l)) ∷ map string (shown_numbers t w (n - 1) (drop w l))
+unfolding shown_numbers
+names_on string t w zero l h = absurd (omega arith)
+names_on string t w (suc n) l h = rw sub-one
+
+-- the same of all the elements that bytes are
 pub names_none : (string : ℕ → List ℕ) (t w : ℕ) (s : List ℕ) → w ≡ width_of t → length s / w ≡ 0 → map string (elements_of t (length s) s) ≡ []
 unfolding elements_of shown_numbers
 names_none string t w s e h = rw (← e, h)
 
-pub names_on : (string : ℕ → List ℕ) (t w : ℕ) (s : List ℕ) → w ≡ width_of t → 0 < w → w ≤ length s
+pub names_first : (string : ℕ → List ℕ) (t w : ℕ) (s : List ℕ) → w ≡ width_of t → 0 < w → w ≤ length s
     → map string (elements_of t (length s) s) ≡ string (shown t (number w s)) ∷ map string (elements_of t (length (drop w s)) (drop w s))
 unfolding elements_of shown_numbers
-names_on string t w s e p h =
+names_first string t w s e p h =
     let n : w + length (drop w s) ≡ length s = rw length-drop (omega arith) in
     let d : length s / w ≡ suc (length (drop w s) / w) = rw n at (add-div_left (length (drop w s)) p) ∙ add-one _ in
     rw (← e, d)

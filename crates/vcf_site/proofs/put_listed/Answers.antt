@@ -11,7 +11,7 @@ use Rattle.pieces.specs.Pieces.{followed}
 use Rattle.pieces.proofs.Put.{then_put}
 use Rattle.names.specs.Names.{name_of}
 use Rattle.vcf_site.specs.Columns.{names_text}
-use Rattle.vcf_site.proofs.Parts.{names_none, names_on, none_listed, listed_on, some_first}
+use Rattle.vcf_site.proofs.Parts.{names_none, names_first, none_listed, listed_on, some_first}
 use Rattle.vcf_site.proofs.put_listed.Goals as goal
 
 pub returns-then-over-eq0 : goal.returns-then-over-eq0
@@ -53,6 +53,6 @@ returns c =
     let first = rw c.at.ensures at c.put_part-next.ensures in
     let others = rw d at c.put_names.ensures in
     let x = rw (← w) at c.bits_at-x.ensures in
-    let e = names_on string a.code width s w p.0 p.1 in
+    let e = names_first string a.code width s w p.0 p.1 in
     let t = then_put a.buf.now a.to (string c.bits_at-x.result) rest (omega arith) (first.next, first.written) (others.next, others.written) in
     rw (e, listed_on 0x3B, ← x) (record { next = t.0; written = t.1 })

@@ -10,7 +10,7 @@ use Rattle.vectors.specs.Vectors.{elements_of}
 use Rattle.pieces.specs.Pieces.{followed}
 use Rattle.pieces.proofs.Put.{put_some, put_all}
 use Rattle.names.specs.Names.{name_of}
-use Rattle.vcf_site.proofs.Parts.{chunk_front, names_none, names_on, none_followed, followed_on}
+use Rattle.vcf_site.proofs.Parts.{chunk_front, names_none, names_first, none_followed, followed_on}
 use Rattle.vcf_site.proofs.put_names.Goals as goal
 
 pub loop-element-preserved : goal.loop-element-preserved
@@ -22,7 +22,7 @@ loop-element-preserved c =
     let h = c.in-Some.ensures.steps in
     let f = chunk_front a.width _ _ _ h.1.0 (h.1.1 ∙ l.invariant.1) in
     let q = rw (← c.requires.0, ← f.0) at c.bits_at-x.ensures in
-    let e = names_on string a.code a.width _ c.requires.0 c.requires.1 f.2 in
+    let e = names_first string a.code a.width _ c.requires.0 c.requires.1 f.2 in
     let last = chunks_exact_rest c.next.new.self in
     let rest = followed 0x3B (map string (elements_of a.code (length last) last)) in
     let t = rw (e, f.1, followed_on, ← q) at l.invariant.0 in
