@@ -17,6 +17,13 @@ sets_part buf at part i h = rw (drop-cons part i 0 h, add-one i, add-suc at i)
 pub sets_end : (buf : List ℕ) (at : ℕ) (part : List ℕ) (i : ℕ) → length part ≤ i → sets buf at (drop i part) ≡ buf
 sets_end buf at part i h = rw (drop_of_length-le part {i = i} h)
 
+-- the next byte of a part that is copied, and none left
+pub part_next : (part : List ℕ) (i : ℕ) → i < length part → drop i part ≡ get_or part i 0 ∷ drop (i + 1) part
+part_next part i h = rw add-one (drop-cons part i 0 h)
+
+pub part_end : (part : List ℕ) (i : ℕ) → length part ≤ i → drop i part ≡ []
+part_end part i h = drop_of_length-le part {i = i} h
+
 -- the next byte of a number that is left, and none left
 pub bytes_next : (n i v : ℕ) → i < n → bytes (n - i) v ≡ v % 256 ∷ bytes (n - (i + 1)) (v / 256)
 unfolding bytes
