@@ -7,18 +7,25 @@ ghost use Rattle.std.specs.Int.{w32};
 ghost use Rattle.std.proofs.Common.{of_z, to_z};
 ghost use Rattle.words.specs.Words.{number, outside};
 
-// The little-endian number that a part's bytes are; of a longer part, that of its first four.
+// The little-endian number that a part's bytes are; of a longer part, that of its first four. The tests stand one after the other, since a `match` over
+// the lengths would be a jump through a table for each element.
 #[tactic(auto, using(crate::proofs::Words::number_four, crate::proofs::Words::past))]
 pub fn word(part: &[u8]) -> u32
     ensures { result ≡ number 4 part.now }
 {
-    match *part {
-        [] => 0,
-        [a] => u32::from(a),
-        [a, b] => u32::from_le_bytes([a, b, 0, 0]),
-        [a, b, c] => u32::from_le_bytes([a, b, c, 0]),
-        [a, b, c, d, ..] => u32::from_le_bytes([a, b, c, d]),
+    if let [a] = *part {
+        return u32::from(a);
     }
+    if let [a, b] = *part {
+        return u32::from_le_bytes([a, b, 0, 0]);
+    }
+    if let [a, b, c, d, ..] = *part {
+        return u32::from_le_bytes([a, b, c, d]);
+    }
+    if let [a, b, c] = *part {
+        return u32::from_le_bytes([a, b, c, 0]);
+    }
+    0
 }
 
 // The number of the `width` bytes at a place, or of as many as stand there; four count at most.
