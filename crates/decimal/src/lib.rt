@@ -11,6 +11,10 @@ ghost use Rattle.stores.specs.Stores.{filled};
 fn digits_in(n: u64) -> usize
     ensures { result ≡ length (decimal n) }
 {
+    // Most numbers of an answer have one digit.
+    if n < 10 {
+        return 1;
+    }
     n.checked_ilog10().map_or(1, |more| more as usize + 1)
 }
 
