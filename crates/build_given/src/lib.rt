@@ -95,10 +95,11 @@ fn vector_of<T: Given>(part: &[T], code: u8, most: u32) -> Result<(), Refusal>
 {
     let mut ended = false;
     for x in part {
-        ended = match vectors::judge_one(code, most, ended, x.bits()) {
-            Ok(now) => now,
-            Err(number) => return Err(Refusal { number, place: 0 }),
+        let turn = vectors::judge_one(code, most, ended, x.bits());
+        let Ok(now) = turn else {
+            return Err(vectors::turn_refusal(turn, 0));
         };
+        ended = now;
     }
     Ok(())
 }

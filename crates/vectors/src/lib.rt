@@ -8,10 +8,10 @@ ghost use Rattle.std.proofs.Common.{rules, tests};
 ghost use Rattle.words.specs.Words.{number};
 ghost use Rattle.types.specs.Rows.{width_of};
 ghost use Rattle.types.specs.Elements.{kind};
-ghost use Rattle.values.specs.Answers.{ValueInside};
+ghost use Rattle.values.specs.Answers.{ValueInside, refusal_in};
 ghost use Rattle.vectors.specs.Sound.{highest, code_most, most_of, sound};
 ghost use Rattle.vectors.specs.Engine.{passed, all_passed, judged_at};
-ghost use Rattle.vectors.specs.Vectors.{numbers, element_turn, vector, judged, JudgedInside, Sound};
+ghost use Rattle.vectors.specs.Vectors.{numbers, element_turn, turn_says, vector, judged, JudgedInside, Sound};
 
 use types::{Element, Use};
 use values::{Refusal, Value};
@@ -39,6 +39,19 @@ pub fn judge_one(code: u8, most: u32, ended: bool, raw: u32) -> Result<bool, u32
             }
             Ok(false)
         }
+    }
+}
+
+// The refusal that the turn of an element at a place says; number 0 where it says none.
+pub fn turn_refusal(turn: Result<bool, u32>, at: usize) -> Refusal
+    ensures { result ≡ refusal_in (turn_says at turn) }
+{
+    match turn {
+        Ok(_) => Refusal {
+            number: 0,
+            place: 0,
+        },
+        Err(number) => Refusal { number, place: at },
     }
 }
 
@@ -245,10 +258,11 @@ impl Rule {
         let mut at = at;
         let mut ended = false;
         for e in part.chunks_exact(self.width) {
-            ended = match judge_one(self.code, self.most, ended, words::word(e)) {
-                Ok(now) => now,
-                Err(number) => return Err(Refusal { number, place: at }),
+            let turn = judge_one(self.code, self.most, ended, words::word(e));
+            let Ok(now) = turn else {
+                return Err(turn_refusal(turn, at));
             };
+            ended = now;
             at += self.width;
         }
         Ok(())
