@@ -73,8 +73,6 @@ NOW = {
     "record::reading_refusal": refuses("reading_says", ("record", "said_reading")),
     "fetch::found_refusal": refuses("found_says", ("fetch", "said_found")),
     "vcf_line::line_refusal": refuses("line_says", ("vcf_line", "said_line")),
-    "vectors::turn_refusal": "`judge` states it: of an element that is refused its answer has the number of `element_turn` and the element's place (`follow` of vectors/specs/Vectors). "
-                             "`turn_says` stands as it was.",
     "decimal::place_after": "std's `Option::unwrap_or` states it, with 0 for no room. `put_told` stands as it was.",
     "frames::text_length": "std's `Option::unwrap_or` states it, with 0 for no room. `answer_told` stands as it was.",
     "c_answers::tell_opening": "`tell_one` states it: `opening_answer` is `one_answer`.",
@@ -102,13 +100,7 @@ NOW = {
     "cuts::StepInside": "`StepInside` of frames/specs/Steps states it, for a stage of any type.",
     "cuts::step_told": "`step_told` of frames/specs/Steps states it, for a stage of any type.",
     "pump::Wrote": "Today `Option<usize>`.",
-    "lines::added_to": "A step in the proof of `take`, which its new form does without.",
-    "encode::fits_1": "A step in the proof of `fits_byte`, which is gone. That all integers of a list take type 1 is `all_1` of encode/proofs/Widest.",
-    "encode::sweep_turn": "The turn of a loop that a generic sweep replaced: `swept_more` of encode/proofs/Widest.",
-    "vectors::sweep_turn": "The turn of a loop that a generic sweep replaced: `numbers_chunk` of vectors/proofs/Lots.",
     "repeats::one_more": "A step in the proofs of three loops that one generic loop replaced.",
-    "genotypes::sweep_turn": "The turn of a loop over four keys: `among_turn` of genotypes/proofs/Earlier.",
-    "build_given::sweep_turn": "The turn of a loop that an iterator's `all` replaced.",
 }
 
 # What to say of an item that is new.
