@@ -64,26 +64,26 @@ impl<'a> Numbers for Part<'a> {
     }
 }
 
-// The elements of a part of type 3, the only ones of which many can differ: with the type known, the compiler reads each at once.
+// The elements of a part of a type that is known here: so no element asks for its width, and the compiler reads each at once.
 #[derive(Clone, Copy)]
-struct LongPart<'a> {
+struct Typed<'a, const CODE: u8, const WIDTH: u8> {
     bytes: &'a [u8],
+    ghost width_fits: { (WIDTH ≡ width_of CODE) × (WIDTH ≤ 4) },
 }
 
-impl<'a> Numbers for LongPart<'a> {
-    ghost shown = { λ it. shown_elements 3 it.bytes.now };
+impl<'a, const CODE: u8, const WIDTH: u8> Numbers for Typed<'a, CODE, WIDTH> {
+    ghost shown = { λ it. shown_elements CODE it.bytes.now };
 
-    #[tactic(auto, using(crate::proofs::Elements::length_elements, vectors::proofs::Plain::width_3))]
+    #[tactic(auto, using(crate::proofs::Elements::length_elements))]
     fn count(&self) -> usize {
-        self.bytes.len() / 4
+        words::over(self.bytes.len(), usize::from(WIDTH))
     }
 
-    #[tactic(auto, using(crate::proofs::Elements::length_elements, vectors::proofs::Plain::width_3))]
     fn at(&self, i: usize) -> u32 {
         let elements = Part {
             bytes: self.bytes,
-            code: 3,
-            width: 4,
+            code: CODE,
+            width: WIDTH,
         };
         elements.at(i)
     }
@@ -250,16 +250,21 @@ pub fn first_outside(part: &[u8], code: u8, size: u32) -> usize
 }
 
 // The index of a part's first element that stood earlier; their count where none did.
+#[tactic(auto, unfolding(types::specs::Rows::width_of, types::specs::Rows::row_of))]
 pub fn first_repeat(part: &[u8], code: u8) -> usize
     ensures { result ≡ first_repeat (shown_elements code part.now) }
 {
-    if code == 3 {
-        return repeat(&LongPart { bytes: part });
+    match code {
+        1 => repeat(&Typed::<1, 1> { bytes: part }),
+        2 => repeat(&Typed::<2, 2> { bytes: part }),
+        3 => repeat(&Typed::<3, 4> { bytes: part }),
+        _ => {
+            let elements = Part {
+                bytes: part,
+                code,
+                width: types::row_of(code).width,
+            };
+            repeat(&elements)
+        }
     }
-    let elements = Part {
-        bytes: part,
-        code,
-        width: types::row_of(code).width,
-    };
-    repeat(&elements)
 }
