@@ -11,7 +11,10 @@ ghost use Rattle.stores.specs.Stores.{fits, filled};
 pub fn has_room(room: usize, at: usize, n: usize) -> bool
     ensures { result ≡ fits room at n }
 {
-    at <= room && n <= room - at
+    if room < at {
+        return false;
+    }
+    n <= room - at
 }
 
 // Copies a part's bytes over as many others, one after the other: the library's own copy would want a `memmove` of whoever links the archive, and for
